@@ -1,0 +1,72 @@
+//! Programs whose names are resolved.
+
+ghost use Rattle.std.specs.Prelude.{◌≡◌};
+
+use crate::ast::{Span, Ty};
+use crate::list::{List, Name};
+use crate::program::Program;
+use indexmap::IndexMap;
+use std::marker::Model;
+
+/// A variable of a method. It is known at the names that begin in its scope.
+#[derive(Clone, Copy)]
+pub struct VarInfo {
+    pub name: u32,
+    pub ty: Ty,
+    pub declared: Span,
+    pub scope: Span,
+}
+
+/// The variables of a method, which is named by its place among those of its class: `this`, the parameters, the locals in text order.
+#[derive(Drop)]
+pub struct MethodTable {
+    pub class: u32,
+    pub method: u32,
+    pub vars: List<VarInfo>,
+}
+
+/// A program with the tables of its methods, in text order. The place of a table is the method's number.
+#[derive(Drop)]
+pub struct Unit {
+    program: Program,
+    classes: IndexMap<Name, u32>,
+    tables: List<MethodTable>,
+}
+
+impl Model for Unit {
+    ghost use Rattle.perm_tree.specs.UnitTables.{Tables};
+
+    ghost Value = { Tables };
+
+    ghost view = { λ u. record { program = u.program; tables = u.tables } };
+}
+
+impl Unit {
+    pub fn new(program: Program, classes: IndexMap<Name, u32>, tables: List<MethodTable>) -> Unit
+        ensures { result ≡ record { program = program; tables = tables } }
+    {
+        Unit {
+            program,
+            classes,
+            tables,
+        }
+    }
+
+    pub fn program(&self) -> &Program
+        ensures { result.now ≡ self.now.program }
+    {
+        &self.program
+    }
+
+    pub fn tables(&self) -> &[MethodTable]
+        ensures { result.now ≡ self.now.tables }
+    {
+        self.tables.as_slice()
+    }
+}
+
+fn is_shared<T: Send + Sync>() {}
+
+fn unit_is_shared() {
+    is_shared::<Unit>();
+}
