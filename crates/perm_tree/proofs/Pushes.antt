@@ -24,7 +24,7 @@ get_push (z ∷ xs) x (suc i) y e = next (get_push xs x i y e)
     next (inl p) = inl p
     next (inr p) = inr (ap suc p.0, p.1)
 
-all_more : (n n' : ℕ) (is : List ℕ) → n ≤ n' → AllBelow n is → AllBelow n' is
+pub all_more : (n n' : ℕ) (is : List ℕ) → n ≤ n' → AllBelow n is → AllBelow n' is
 all_more n n' [] le b = tt
 all_more n n' (i ∷ is) le b = (omega (arith, b.0), all_more n n' is le b.1)
 

@@ -1,0 +1,9 @@
+//! The interpreter of a program that runs alone, over a heap of words.
+#![tactic(auto)]
+
+mod alone;
+mod eval;
+mod machine;
+mod scope;
+
+pub use alone::run_alone;
