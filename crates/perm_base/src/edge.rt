@@ -1,0 +1,1 @@
+//! Real files and the standard output. Neither tells what it holds.

@@ -1,0 +1,13 @@
+//! The outside of a program: shelves of files that are read, sinks that take the output, what reads a file whole, and what writes a text whole.
+#![tactic(auto)]
+
+pub mod edge;
+pub mod mem_shelf;
+pub mod mem_sink;
+pub mod outside;
+pub mod reading;
+pub mod writing;
+
+pub use outside::{Failed, Shelf, Sink};
+pub use reading::{ReadFault, read_text};
+pub use writing::write_all;

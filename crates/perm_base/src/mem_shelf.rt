@@ -1,0 +1,1 @@
+//! A shelf in memory, of which chosen calls fail.
