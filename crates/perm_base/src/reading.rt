@@ -1,9 +1,9 @@
 //! Reading a file whole.
 
-ghost use Rattle.std.specs.Prelude.{◌≡◌, ◌⊎◌, ◌+◌, ◌<◌, ◌≤◌, List, ℕ, ◌++◌, length, take, vec_len, IfOk, IfSome, IsErrOf, OnErr, Some};
+ghost use Rattle.std.specs.Prelude.{◌≡◌, ◌⊎◌, ◌+◌, ◌<◌, ◌≤◌, List, ℕ, ◌++◌, length, take, vec_len, IfOk, IfErr, IfSome, IsErrOf, Some};
 ghost use Rattle.perm_base.specs.Counts.{Rose};
 ghost use Rattle.perm_base.specs.Files.{HasFile, HasNoFile, WhereTold, Copies};
-ghost use Rattle.perm_base.specs.Reads.{IsAnswerFor};
+ghost use Rattle.perm_base.specs.Reads.{HasCause, IsAnswerFor};
 ghost use Rattle.perm_base.specs.declared.reading.ReadFault.TheVariants.{Fault, NoMemory};
 
 use crate::outside::{Failed, Shelf};
@@ -84,7 +84,7 @@ fn read_piece<F: Shelf>(shelf: &mut F, path: &str, text: &mut Vec<u8>, piece: &m
     ensures text_length { IfOk result (λ n. vec_len text.new ≡ vec_len text.old + n) }
     ensures copied { IfOk result (λ n. WhereTold (F.told shelf.old) path.now (λ bytes. Copies bytes (vec_len text.old) n piece.new)) }
     ensures appended { IfOk result (λ n. text.new.items ≡ text.old.items ++ take n piece.new) }
-    ensures cause { OnErr result (IsErrOf result ReadFault.NoMemory ⊎ (IsErrOf result ReadFault.Fault × (Rose (F.faults shelf.old) (F.faults shelf.new) ⊎ HasNoFile (F.told shelf.old) path.now))) }
+    ensures cause { IfErr result (λ e. HasCause e (F.told shelf.old) path.now (F.faults shelf.old) (F.faults shelf.new)) }
     ensures told { F.told shelf.new ≡ F.told shelf.old }
     ensures counts { F.faults shelf.old ≤ F.faults shelf.new }
     ensures reads { F.reads shelf.new ≤ F.reads shelf.old + 1 }
