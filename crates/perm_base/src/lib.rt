@@ -8,6 +8,7 @@ pub mod outside;
 pub mod reading;
 pub mod writing;
 
+pub use mem_shelf::{MemFile, MemShelf};
 pub use outside::{Failed, Shelf, Sink};
 pub use reading::{ReadFault, read_text};
 pub use writing::write_all;
