@@ -9,6 +9,7 @@ pub mod reading;
 pub mod writing;
 
 pub use mem_shelf::{MemFile, MemShelf};
+pub use mem_sink::MemSink;
 pub use outside::{Failed, Shelf, Sink};
 pub use reading::{ReadFault, read_text};
 pub use writing::write_all;
