@@ -1,1 +1,91 @@
 //! Real files and the standard output. Neither tells what it holds.
+
+ghost use Rattle.std.specs.Prelude.{◌≡◌, ◌≤◌, ◌<◌, length, None, IfOk};
+
+use crate::outside::{Failed, Shelf, Sink};
+use std::fs;
+use std::io;
+use std::io::{Read, Seek, SeekFrom, Write};
+use std::rt::Files;
+
+/// The files of the system. A file that isn't there counts as a fault, as every error does.
+pub struct FileShelf<'a, R: Files> {
+    rt: &'a R,
+    pub faults: u64,
+}
+
+impl<'a, R: Files> FileShelf<'a, R> {
+    pub fn new(rt: &'a R) -> FileShelf<'a, R>
+        ensures { result.faults ≡ 0 }
+    {
+        FileShelf { rt, faults: 0 }
+    }
+}
+
+impl<R: Files> Drop for FileShelf<'_, R> {
+    fn drop(self) {
+        let FileShelf { rt: _, faults: _ } = self;
+    }
+}
+
+impl<R: Files> Shelf for FileShelf<'_, R> {
+    ghost told = { λ _. None };
+
+    ghost faults = { λ shelf. shelf.faults };
+
+    ghost reads = { λ _. 0 };
+
+    fn read(&mut self, path: &str, at: u64, into: &mut [u8]) -> Result<usize, Failed> {
+        match read_at(self.rt, path, at, into) {
+            Ok(count) => Ok(count),
+            Err(_) => {
+                self.faults = self.faults.saturating_add(1);
+                Err(Failed)
+            }
+        }
+    }
+}
+
+fn read_at<R: Files>(rt: &R, path: &str, at: u64, into: &mut [u8]) -> io::Result<usize>
+    ensures { IfOk result (λ n. n ≤ length into.new) }
+{
+    let mut file = fs::open(rt, path)?;
+    file.seek(SeekFrom::Start(at))?;
+    file.read(into)
+}
+
+/// The standard output. A write that takes nothing counts as a fault, as every error does.
+pub struct StdSink<'a, R: Print> {
+    rt: &'a R,
+    pub faults: u64,
+}
+
+impl<'a, R: Print> StdSink<'a, R> {
+    pub fn new(rt: &'a R) -> StdSink<'a, R>
+        ensures { result.faults ≡ 0 }
+    {
+        StdSink { rt, faults: 0 }
+    }
+}
+
+impl<R: Print> Drop for StdSink<'_, R> {
+    fn drop(self) {
+        let StdSink { rt: _, faults: _ } = self;
+    }
+}
+
+impl<R: Print> Sink for StdSink<'_, R> {
+    ghost told = { λ _. None };
+
+    ghost faults = { λ sink. sink.faults };
+
+    fn write(&mut self, piece: &[u8]) -> Result<usize, Failed> {
+        match io::writer(self.rt).write(piece) {
+            Ok(count) if count > 0 => Ok(count),
+            _ => {
+                self.faults = self.faults.saturating_add(1);
+                Err(Failed)
+            }
+        }
+    }
+}

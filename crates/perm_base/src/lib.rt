@@ -8,6 +8,7 @@ pub mod outside;
 pub mod reading;
 pub mod writing;
 
+pub use edge::{FileShelf, StdSink};
 pub use mem_shelf::{MemFile, MemShelf};
 pub use mem_sink::MemSink;
 pub use outside::{Failed, Shelf, Sink};
