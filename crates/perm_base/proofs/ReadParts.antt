@@ -22,10 +22,9 @@ front_more (Some bytes) text piece n at is front copied =
     let came : length (take n piece) ≡ n = ap length copied.same ∙ length-take-le n (drop at bytes) there in
     let longer : length (text ++ take n piece) ≡ length text + n = omega (arith, length-append text (take n piece), came) in
     let parts : take (length text + n) bytes ≡ take (length text) bytes ++ take n (drop (length text) bytes) = take-add (length text) n bytes in
-    let same : take n piece ≡ take n (drop (length text) bytes) = copied.same ∙ ap (λ k. take n (drop k bytes)) is in
-    (
+    let same : take n piece ≡ take n (drop (length text) bytes) = copied.same ∙ ap (λ k. take n (drop k bytes)) is in (
       ap (λ xs. xs ++ take n piece) front.0 ∙ ap (λ xs. take (length text) bytes ++ xs) same ∙ sym parts ∙ ap (λ k. take k bytes) (sym longer),
-      omega (arith, longer, copied.there, front.1, from)
+      omega (arith, longer, copied.there, front.1, from),
     )
 
 more_told : (told : Option Files) (path text new piece : List ℕ) (n at : ℕ) → at ≡ length text

@@ -32,7 +32,7 @@ more_written old now new text rest n before step = record {
   done = before.done ++ take n rest;
   split = ap (λ xs. (before.done ++ take n rest) ++ xs) (take_all (length rest - n) (drop n rest) (omega (arith, length-drop n rest)))
       ∙ append_assoc before.done (take n rest) (drop n rest) ∙ ap (λ xs. before.done ++ xs) (take-append-drop n rest) ∙ before.split;
-  taken = step ∙ ap (λ told. appended told (take n rest)) before.taken ∙ appended-append old before.done (take n rest)
+  taken = step ∙ ap (λ told. appended told (take n rest)) before.taken ∙ appended-append old before.done (take n rest);
 }
 
 pub all_written : (old now : Option (List ℕ)) (text rest : List ℕ) → IsWrittenUpTo old now text rest → length rest ≡ 0
@@ -45,4 +45,5 @@ pub part_written : (old now new : Option (List ℕ)) (text rest : List ℕ) → 
 part_written old now new text rest before some same = (
   length before.done,
   omega (arith, ap length before.split, length-append before.done rest),
-  same ∙ before.taken ∙ ap (λ xs. appended old xs) (sym (take-append_seam before.done rest) ∙ ap (take (length before.done)) before.split))
+  same ∙ before.taken ∙ ap (λ xs. appended old xs) (sym (take-append_seam before.done rest) ∙ ap (take (length before.done)) before.split),
+)

@@ -1,12 +1,13 @@
 //! Real files and the standard output. Neither tells what it holds.
 
-ghost use Rattle.std.specs.Prelude.{◌≡◌, ◌≤◌, ◌<◌, length, None, IfOk};
+ghost use Rattle.std.specs.Prelude.{◌≡◌, ◌≤◌, ◌<◌, length, None, IfOk, is_err, if◌then◌else◌};
+ghost use Rattle.std.specs.Result.{result_ok};
+ghost use Rattle.perm_base.specs.Counts.{next_count};
 
 use crate::outside::{Failed, Shelf, Sink};
-use std::fs;
-use std::io;
 use std::io::{Read, Seek, SeekFrom, Write};
 use std::rt::Files;
+use std::{fs, io};
 
 /// The files of the system. A file that isn't there counts as a fault, as every error does.
 pub struct FileShelf<'a, R: Files> {
@@ -36,13 +37,8 @@ impl<R: Files> Shelf for FileShelf<'_, R> {
     ghost reads = { λ _. 0 };
 
     fn read(&mut self, path: &str, at: u64, into: &mut [u8]) -> Result<usize, Failed> {
-        match read_at(self.rt, path, at, into) {
-            Ok(count) => Ok(count),
-            Err(_) => {
-                self.faults = self.faults.saturating_add(1);
-                Err(Failed)
-            }
-        }
+        let count = read_at(self.rt, path, at, into).ok();
+        answer(&mut self.faults, count)
     }
 }
 
@@ -80,12 +76,22 @@ impl<R: Print> Sink for StdSink<'_, R> {
     ghost faults = { λ sink. sink.faults };
 
     fn write(&mut self, piece: &[u8]) -> Result<usize, Failed> {
-        match io::writer(self.rt).write(piece) {
-            Ok(count) if count > 0 => Ok(count),
-            _ => {
-                self.faults = self.faults.saturating_add(1);
-                Err(Failed)
-            }
-        }
+        let count = match io::writer(self.rt).write(piece) {
+            Ok(count) if count > 0 => Some(count),
+            _ => None,
+        };
+        answer(&mut self.faults, count)
     }
+}
+
+/// Counts a fault where nothing was done.
+fn answer(faults: &mut u64, count: Option<usize>) -> Result<usize, Failed>
+    ensures done { result_ok result ≡ count }
+    ensures counts { faults.old ≤ faults.new }
+    ensures faults { faults.new ≡ (if is_err result then next_count faults.old else faults.old) }
+{
+    if count.is_none() {
+        *faults = faults.saturating_add(1);
+    }
+    count.ok_or(Failed)
 }

@@ -14,3 +14,6 @@ pub use mem_sink::MemSink;
 pub use outside::{Failed, Shelf, Sink};
 pub use reading::{ReadFault, read_text};
 pub use writing::write_all;
+
+#[cfg(test)]
+mod tests;

@@ -48,8 +48,9 @@ impl Shelf for MemShelf {
             (λ bytes. (n ≡ copied_count bytes at into.old) × (into.new ≡ copied bytes at into.old))) }
         ensures kept { OnErr result (into.new ≡ into.old) }
         ensures after { self.new ≡ record self.old {
-            calls = next_count self.old.calls;
-            faults = if is_next_failing self.old.fail.items self.old.calls then next_count self.old.faults else self.old.faults } }
+          calls = next_count self.old.calls;
+          faults = if is_next_failing self.old.fail.items self.old.calls then next_count self.old.faults else self.old.faults;
+        } }
     {
         self.calls = self.calls.saturating_add(1);
         if self.fail.contains(&self.calls) {

@@ -46,7 +46,12 @@ impl From<AllocError> for ReadFault {
 }
 
 /// Reads the file under `path`, of at most `limit` bytes, in pieces.
-pub fn read_text<F: Shelf>(alloc: Global, shelf: &mut F, path: &str, limit: u64) -> Result<Vec<u8>, ReadFault>
+pub fn read_text<F: Shelf>(
+    alloc: Global,
+    shelf: &mut F,
+    path: &str,
+    limit: u64,
+) -> Result<Vec<u8>, ReadFault>
     requires { limit ≤ GREATEST_LIMIT }
 
     // Whether or not a count rose.
@@ -79,7 +84,12 @@ pub fn read_text<F: Shelf>(alloc: Global, shelf: &mut F, path: &str, limit: u64)
 }
 
 /// Reads once from behind what was read, and appends what came. The number is that of the bytes that came.
-fn read_piece<F: Shelf>(shelf: &mut F, path: &str, text: &mut Vec<u8>, piece: &mut [u8]) -> Result<usize, ReadFault>
+fn read_piece<F: Shelf>(
+    shelf: &mut F,
+    path: &str,
+    text: &mut Vec<u8>,
+    piece: &mut [u8],
+) -> Result<usize, ReadFault>
     ensures within { IfOk result (λ n. n ≤ length piece.old) }
     ensures text_length { IfOk result (λ n. vec_len text.new ≡ vec_len text.old + n) }
     ensures copied { IfOk result (λ n. WhereTold (F.told shelf.old) path.now (λ bytes. Copies bytes (vec_len text.old) n piece.new)) }

@@ -8,10 +8,10 @@ loop-piece-preserved g c =
     let within : c.in_ok-read_piece.field-0 ≤ c.min-size.result = omega (arith, step.within, length-take c.min-size.result c.loop-piece.piece) in
     record {
       front = more_read (g.F.Shelf.told c.args.shelf.now) (g.F.Shelf.told c.loop-piece.shelf) c.args.path.now c.loop-piece.text.items c.read_piece.new.text.items
-          c.read_piece.new.piece c.in_ok-read_piece.field-0 (vec_len c.loop-piece.text) c.loop-piece.invariant.told (omega arith) c.loop-piece.invariant.front 
+          c.read_piece.new.piece c.in_ok-read_piece.field-0 (vec_len c.loop-piece.text) c.loop-piece.invariant.told (omega arith) c.loop-piece.invariant.front
           step.copied step.appended;
       most = omega (arith, step.text_length, within);
       told = c.read_piece.ensures.told ∙ c.loop-piece.invariant.told;
       counts = omega (arith, c.loop-piece.invariant.counts);
-      reads = omega (arith, c.loop-piece.invariant.reads, step.text_length)
+      reads = omega (arith, c.loop-piece.invariant.reads, step.text_length);
     }

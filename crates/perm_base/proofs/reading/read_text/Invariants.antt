@@ -8,7 +8,7 @@ invariant-loop-piece g l = record {
   most : vec_len l.text ≤ l.most;
   told : g.F.Shelf.told l.shelf ≡ g.F.Shelf.told l.fn.shelf;
   counts : g.F.Shelf.faults l.fn.shelf ≤ g.F.Shelf.faults l.shelf;
-  reads : g.F.Shelf.reads l.shelf ≤ g.F.Shelf.reads l.fn.shelf + vec_len l.text
+  reads : g.F.Shelf.reads l.shelf ≤ g.F.Shelf.reads l.fn.shelf + vec_len l.text;
 }
 
 abbrev pub decreases-loop-piece : goal.decreases-loop-piece

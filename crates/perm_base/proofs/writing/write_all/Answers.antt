@@ -10,5 +10,5 @@ returns-in_err-taken-clause-part g c =
 pub loop-rest-preserved : goal.loop-rest-preserved
 loop-rest-preserved g c = record {
   written = more_written _ _ _ _ _ c.in_ok-taken.taken c.loop-rest.invariant.written c.in_ok-taken.ensures.taken;
-  counts = omega (arith, c.loop-rest.invariant.counts, c.write.ensures.counts)
+  counts = omega (arith, c.loop-rest.invariant.counts, c.write.ensures.counts);
 }
