@@ -13,6 +13,7 @@ IsFrontOf (Some bytes) text = (text ≡ take (length text) bytes) × (length tex
 abbrev pub IsFrontWhereTold : Option Files → List ℕ → List ℕ → Type 0
 IsFrontWhereTold told path text = IfSome told (λ files. IsFrontOf (files path) text)
 
+-- `more_read` at a file
 front_more : (file : Option (List ℕ)) (text piece : List ℕ) (n at : ℕ) → at ≡ length text → IsFrontOf file text
     → IsSomeAnd file (λ bytes. Copies bytes at n piece) → IsFrontOf file (text ++ take n piece)
 front_more None text piece n at is front copied = absurd copied
@@ -27,6 +28,7 @@ front_more (Some bytes) text piece n at is front copied =
       omega (arith, longer, copied.there, front.1, from),
     )
 
+-- `more_read` at what is told
 more_told : (told : Option Files) (path text new piece : List ℕ) (n at : ℕ) → at ≡ length text
     → IsFrontWhereTold told path text → WhereTold told path (λ bytes. Copies bytes at n piece)
     → new ≡ text ++ take n piece → IsFrontWhereTold told path new
@@ -41,6 +43,7 @@ pub more_read : (told now : Option Files) (path text new piece : List ℕ) (n at
 more_read told now path text new piece n at same is front copied longer =
     more_told told path text new piece n at is front (subst (λ t. WhereTold t path (λ bytes. Copies bytes at n piece)) same copied) longer
 
+-- `whole_read` at a file
 front_whole : (file : Option (List ℕ)) (text piece : List ℕ) (n at : ℕ) → at ≡ length text → n ≡ 0 → 0 < length piece → IsFrontOf file text
     → IsSomeAnd file (λ bytes. Copies bytes at n piece) → file ≡ Some text
 front_whole None text piece n at is none room front copied = absurd copied
@@ -48,6 +51,7 @@ front_whole (Some bytes) text piece n at is none room front copied =
     let all : length bytes ≤ length text = omega (arith, copied.end room none, is) in
     ap Some (sym (front.0 ∙ take_all (length text) bytes all))
 
+-- `whole_read` at what is told
 whole_told : (told : Option Files) (path text piece : List ℕ) (n at : ℕ) → at ≡ length text → n ≡ 0 → 0 < length piece
     → IsFrontWhereTold told path text → WhereTold told path (λ bytes. Copies bytes at n piece)
     → IfSome told (λ files. files path ≡ Some text)
@@ -62,6 +66,7 @@ pub whole_read : (told now : Option Files) (path text piece : List ℕ) (n at : 
 whole_read told now path text piece n at same is none room front copied =
     whole_told told path text piece n at is none room front (subst (λ t. WhereTold t path (λ bytes. Copies bytes at n piece)) same copied)
 
+-- `longer_read` at a file
 front_longer : (file : Option (List ℕ)) (text : List ℕ) (limit : ℕ) → limit < length text → IsFrontOf file text
     → IsSomeAnd file (λ bytes. limit < length bytes)
 front_longer None text limit more front = absurd (omega (arith, front))

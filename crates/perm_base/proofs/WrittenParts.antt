@@ -4,7 +4,7 @@ use Rattle.std.proofs.lemmas.List.{take-append-drop, take_all}
 use Rattle.std.proofs.Math.Seq.{take-append_seam}
 use Rattle.perm_base.specs.Pieces.{appended, AppendsPart}
 
--- what holds at any answer
+-- what holds anyhow holds at an error
 pub on_err : {T E P : Type 0} (r : Result T E) → P → OnErr r P
 on_err (Ok x) p = tt
 on_err (Err e) p = p
@@ -23,9 +23,11 @@ pub appended-append : (old : Option (List ℕ)) (a b : List ℕ) → appended (a
 appended-append None a b = refl
 appended-append (Some taken) a b = ap Some (append_assoc taken a b)
 
+-- before the first write
 pub nothing_written : (old : Option (List ℕ)) (text : List ℕ) → IsWrittenUpTo old old text text
 nothing_written old text = record { done = []; split = refl; taken = sym (appended-nil old) }
 
+-- after a write of n bytes
 pub more_written : (old now new : Option (List ℕ)) (text rest : List ℕ) (n : ℕ) → IsWrittenUpTo old now text rest
     → new ≡ appended now (take n rest) → IsWrittenUpTo old new text (take (length rest - n) (drop n rest))
 more_written old now new text rest n before step = record {
@@ -35,11 +37,13 @@ more_written old now new text rest n before step = record {
   taken = step ∙ ap (λ told. appended told (take n rest)) before.taken ∙ appended-append old before.done (take n rest);
 }
 
+-- where nothing is left
 pub all_written : (old now : Option (List ℕ)) (text rest : List ℕ) → IsWrittenUpTo old now text rest → length rest ≡ 0
     → now ≡ appended old text
 all_written old now text [] before none = before.taken ∙ ap (λ xs. appended old xs) (sym (append-nil before.done) ∙ before.split)
 all_written old now text (b ∷ rest) before none = absurd (omega (arith, none))
 
+-- where a write is refused
 pub part_written : (old now new : Option (List ℕ)) (text rest : List ℕ) → IsWrittenUpTo old now text rest → 0 < length rest
     → new ≡ now → AppendsPart old new text
 part_written old now new text rest before some same = (

@@ -17,7 +17,7 @@ HasNoFile told path = IsSomeAnd told (λ files. files path ≡ None)
 abbrev pub WhereTold : Option Files → List ℕ → (List ℕ → Type 0) → Type 0
 WhereTold told path P = IfSome told (λ files. IsSomeAnd (files path) P)
 
--- the first n bytes of the buffer are those of the file from a place on; where the buffer has room, there are none only at the end
+-- the first n bytes of the buffer are those of the file from a place on, and there are none only at its end
 pub record Copies (bytes : List ℕ) (at n : ℕ) (buffer : List ℕ) : Type 0 where
   pub same : take n buffer ≡ take n (drop at bytes)
   pub there : n ≤ length bytes - at

@@ -6,7 +6,7 @@ use Rattle.perm_base.specs.Files.{Files, HasNoFile}
 use Rattle.perm_base.specs.declared.reading.ReadFault.{ReadFault}
 use Rattle.perm_base.specs.declared.reading.ReadFault.TheVariants.{Fault, TooLong, NoMemory}
 
--- the answer for a file with these bytes, of which no read failed: its bytes, or that there are more than the limit; want of memory is free
+-- the answer for a file with these bytes where no read failed; want of memory is free
 abbrev pub IsAnswerFor : List ℕ → ℕ → Result (Vec ℕ) ReadFault → Type 0
 IsAnswerFor bytes limit (Ok text) = (text.items ≡ bytes) × (length bytes ≤ limit)
 IsAnswerFor bytes limit (Err TooLong) = limit < length bytes

@@ -9,9 +9,11 @@ use std::io::{Read, Seek, SeekFrom, Write};
 use std::rt::Files;
 use std::{fs, io};
 
-/// The files of the system. A file that isn't there counts as a fault, as every error does.
+/// The files of the system. Each read opens its file anew. A file that isn't there counts as a fault,
+/// as every error does.
 pub struct FileShelf<'a, R: Files> {
     rt: &'a R,
+    /// How many reads failed. At the greatest `u64` the count stands still.
     pub faults: u64,
 }
 
@@ -53,6 +55,7 @@ fn read_at<R: Files>(rt: &R, path: &str, at: u64, into: &mut [u8]) -> io::Result
 /// The standard output. A write that takes nothing counts as a fault, as every error does.
 pub struct StdSink<'a, R: Print> {
     rt: &'a R,
+    /// How many writes failed. At the greatest `u64` the count stands still.
     pub faults: u64,
 }
 
@@ -87,7 +90,7 @@ impl<R: Print> Sink for StdSink<'_, R> {
 /// Counts a fault where nothing was done.
 fn answer(faults: &mut u64, count: Option<usize>) -> Result<usize, Failed>
     ensures done { result_ok result ≡ count }
-    ensures counts { faults.old ≤ faults.new }
+    ensures not_fewer { faults.old ≤ faults.new }
     ensures faults { faults.new ≡ (if is_err result then next_count faults.old else faults.old) }
 {
     if count.is_none() {

@@ -1,4 +1,4 @@
-//! The outside of a program: shelves of files that are read, sinks that take the output, what reads a file whole, and what writes a text whole.
+//! The outside of a program: shelves of files, sinks of output, and reading and writing of whole texts.
 #![tactic(auto)]
 
 pub mod edge;

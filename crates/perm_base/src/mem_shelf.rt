@@ -1,11 +1,11 @@
 //! A shelf in memory, of which chosen calls fail.
 
-ghost use Rattle.std.specs.Prelude.{◌≡◌, ◌⊎◌, ◌≤◌, ◌+◌, ◌↔◌, length, None, Some, IfOk, OnErr, IsErr, IsTrue, if◌then◌else◌};
+ghost use Rattle.std.specs.Prelude.{◌≡◌, ◌⊎◌, ◌≤◌, ◌+◌, ◌↔◌, length, IfOk, OnErr, IsErr, IsTrue};
 ghost use Rattle.std.specs.Option.{option_copied};
-ghost use Rattle.perm_base.specs.Calls.{is_next_failing};
+ghost use Rattle.perm_base.specs.Calls.{is_next_failing, faults_after};
 ghost use Rattle.perm_base.specs.Counts.{Rose, next_count};
 ghost use Rattle.perm_base.specs.Files.{HasNoFile, WhereTold, Copies};
-ghost use Rattle.perm_base.specs.MemFiles.{files_of, copied_count, copied};
+ghost use Rattle.perm_base.specs.MemFiles.{files_of, told_of, copied_count, copied};
 
 use crate::outside::{Failed, Shelf};
 
@@ -16,40 +16,47 @@ pub struct MemFile {
     pub bytes: Vec<u8>,
 }
 
-/// Files in memory; of equal paths the first counts. Calls are numbered from 1, and those whose numbers stand in `fail` are refused.
+/// Files in memory; of equal paths the first counts.
 #[derive(Drop)]
 pub struct MemShelf {
     pub files: Vec<MemFile>,
+    /// The numbers of the calls that fail. The first call has the number 1.
     pub fail: Vec<u64>,
+    /// How many calls were made. At the greatest `u64` the count stands still.
     pub calls: u64,
+    /// How many calls failed by their numbers.
     pub faults: u64,
 }
 
 impl Shelf for MemShelf {
-    ghost told = { λ shelf. Some (files_of shelf.files.items) };
+    ghost told = { λ shelf. told_of shelf.files.items };
 
     ghost faults = { λ shelf. shelf.faults };
 
     ghost reads = { λ shelf. shelf.calls };
 
     fn read(&mut self, path: &str, at: u64, into: &mut [u8]) -> Result<usize, Failed>
-        ensures told { Some (files_of self.new.files.items) ≡ Some (files_of self.old.files.items) }
-        ensures counts { self.old.faults ≤ self.new.faults }
+        ensures unchanged { told_of self.new.files.items ≡ told_of self.old.files.items }
+        ensures not_fewer { self.old.faults ≤ self.new.faults }
         ensures reads { self.new.calls ≤ self.old.calls + 1 }
 
         ensures within { IfOk result (λ n. n ≤ length into.new) }
-        ensures copied { IfOk result (λ n. WhereTold (Some (files_of self.old.files.items)) path.now (λ bytes. Copies bytes at n into.new)) }
-        ensures missing { HasNoFile (Some (files_of self.old.files.items)) path.now → IsErr result }
-        ensures failed { OnErr result (Rose self.old.faults self.new.faults ⊎ HasNoFile (Some (files_of self.old.files.items)) path.now) }
+        ensures copied { IfOk result (λ n.
+            WhereTold (told_of self.old.files.items) path.now (λ bytes. Copies bytes at n into.new)) }
+        ensures missing { HasNoFile (told_of self.old.files.items) path.now → IsErr result }
+        ensures failed { OnErr result
+            (Rose self.old.faults self.new.faults ⊎ HasNoFile (told_of self.old.files.items) path.now) }
 
-        // Exactly.
-        ensures refused { IsErr result ↔ (IsTrue (is_next_failing self.old.fail.items self.old.calls) ⊎ (files_of self.old.files.items path.now ≡ None)) }
-        ensures gives { IfOk result (λ n. WhereTold (Some (files_of self.old.files.items)) path.now
-            (λ bytes. (n ≡ copied_count bytes at into.old) × (into.new ≡ copied bytes at into.old))) }
+        // What the call does, exactly.
+        ensures refused { IsErr result
+            ↔ (IsTrue (is_next_failing self.old.fail.items self.old.calls)
+            ⊎ HasNoFile (told_of self.old.files.items) path.now) }
+        ensures gives { IfOk result (λ n. WhereTold (told_of self.old.files.items) path.now (λ bytes.
+            (n ≡ copied_count bytes at into.old) × (into.new ≡ copied bytes at into.old))) }
         ensures kept { OnErr result (into.new ≡ into.old) }
         ensures after { self.new ≡ record self.old {
           calls = next_count self.old.calls;
-          faults = if is_next_failing self.old.fail.items self.old.calls then next_count self.old.faults else self.old.faults;
+          faults = faults_after self.old.fail.items self.old.calls self.old.faults;
         } }
     {
         self.calls = self.calls.saturating_add(1);

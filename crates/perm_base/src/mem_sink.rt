@@ -1,6 +1,6 @@
 //! A sink in memory, with room for a number of bytes, of which chosen calls fail.
 
-ghost use Rattle.std.specs.Prelude.{◌≡◌, ◌⊎◌, ◌≤◌, ◌<◌, ◌-◌, ◌↔◌, [], ◌++◌, length, take, min, Some, IfOk, OnErr, OnOk, IsErr, IsTrue, is_err, if◌then◌else◌, vec_len, vec_capacity};
+ghost use Rattle.std.specs.Prelude.{◌≡◌, ◌⊎◌, ◌≤◌, ◌<◌, ◌-◌, ◌↔◌, [], ◌++◌, length, take, min, Some, IfOk, OnErr, IsErr, IsTrue, is_err, if◌then◌else◌, vec_len, vec_capacity};
 ghost use Rattle.perm_base.specs.Calls.{is_next_failing};
 ghost use Rattle.perm_base.specs.Counts.{Rose, next_count};
 ghost use Rattle.perm_base.specs.Pieces.{appended};
@@ -9,7 +9,7 @@ use crate::outside::{Failed, Sink};
 use perm_tree::errors::NoMemory;
 use std::alloc::Global;
 
-/// Takes the output into memory. Calls are numbered from 1, and those whose numbers stand in `fail` are refused.
+/// Takes the output into memory.
 #[derive(Drop)]
 pub struct MemSink {
     /// What was taken.
@@ -18,8 +18,11 @@ pub struct MemSink {
     pub room: u64,
     /// How many bytes a write takes at most.
     pub step: u64,
+    /// The numbers of the calls that are refused. The first call has the number 1.
     pub fail: Vec<u64>,
+    /// How many calls were made. At the greatest `u64` the count stands still.
     pub calls: u64,
+    /// How many calls were refused.
     pub faults: u64,
     pub ghost within_room: { vec_len taken ≤ room },
     pub ghost room_is_there: { room ≤ vec_capacity taken },
@@ -27,6 +30,7 @@ pub struct MemSink {
 }
 
 impl MemSink {
+    /// A sink that has taken nothing. The error is want of memory for `room` bytes.
     pub fn new(alloc: Global, room: u64, step: u64, fail: Vec<u64>) -> Result<MemSink, NoMemory>
         requires { 0 < step }
         ensures taken { IfOk result (λ sink. sink.taken.items ≡ []) }
@@ -57,18 +61,23 @@ impl Sink for MemSink {
     fn write(&mut self, piece: &[u8]) -> Result<usize, Failed>
         requires { 0 < length piece.now }
 
-        ensures counts { self.old.faults ≤ self.new.faults }
+        ensures not_fewer { self.old.faults ≤ self.new.faults }
         ensures within { IfOk result (λ n. n ≤ length piece.now) }
         ensures some { IfOk result (λ n. 0 < n) }
-        ensures taken { IfOk result (λ n. Some self.new.taken.items ≡ appended (Some self.old.taken.items) (take n piece.now)) }
-        ensures refused { OnErr result (Some self.new.taken.items ≡ Some self.old.taken.items) }
+        ensures taken { IfOk result (λ n.
+            Some self.new.taken.items ≡ appended (Some self.old.taken.items) (take n piece.now)) }
+        ensures kept { OnErr result (Some self.new.taken.items ≡ Some self.old.taken.items) }
         ensures failed { OnErr result (Rose self.old.faults self.new.faults) }
 
-        // Exactly.
-        ensures refuses { IsErr result ↔ (IsTrue (is_next_failing self.old.fail.items self.old.calls) ⊎ (vec_len self.old.taken ≡ self.old.room)) }
-        ensures gives { IfOk result (λ n. n ≡ min self.old.step (min (self.old.room - vec_len self.old.taken) (length piece.now))) }
+        // What the call does, exactly.
+        ensures refused { IsErr result
+            ↔ (IsTrue (is_next_failing self.old.fail.items self.old.calls)
+            ⊎ (vec_len self.old.taken ≡ self.old.room)) }
+        ensures gives { IfOk result (λ n. let free = self.old.room - vec_len self.old.taken in
+            n ≡ min self.old.step (min free (length piece.now))) }
         ensures calls { self.new.calls ≡ next_count self.old.calls }
-        ensures faults { self.new.faults ≡ (if is_err result then next_count self.old.faults else self.old.faults) }
+        ensures faults { self.new.faults
+            ≡ (if is_err result then next_count self.old.faults else self.old.faults) }
         ensures room { self.new.room ≡ self.old.room }
         ensures step { self.new.step ≡ self.old.step }
         ensures fail { self.new.fail ≡ self.old.fail }

@@ -19,12 +19,13 @@ const PIECE: usize = 4096;
 /// Why a file wasn't read whole.
 #[derive(Clone, Copy, Debug, PartialEq, Eq, Error)]
 pub enum ReadFault {
-    /// A read was refused.
+    /// A read was refused: the outside failed, or no file is there.
     #[error("a read failed")]
     Fault,
     /// The file has more bytes than the limit.
     #[error("the file is too long")]
     TooLong,
+    /// There was no memory for what was read.
     #[error("out of memory")]
     NoMemory,
 }
@@ -45,7 +46,7 @@ impl From<AllocError> for ReadFault {
     }
 }
 
-/// Reads the file under `path`, of at most `limit` bytes, in pieces.
+/// Reads the file under `path` whole, in pieces, if it has at most `limit` bytes.
 pub fn read_text<F: Shelf>(
     alloc: Global,
     shelf: &mut F,
@@ -55,11 +56,14 @@ pub fn read_text<F: Shelf>(
     requires { limit ≤ GREATEST_LIMIT }
 
     // Whether or not a count rose.
-    ensures whole { IfOk result (λ text. IfSome (F.told shelf.old) (λ files. files path.now ≡ Some text.items)) }
+    ensures whole { IfOk result (λ text.
+        IfSome (F.told shelf.old) (λ files. files path.now ≡ Some text.items)) }
     ensures within { IfOk result (λ text. vec_len text ≤ limit) }
-    ensures too_long { IsErrOf result ReadFault.TooLong → WhereTold (F.told shelf.old) path.now (λ bytes. limit < length bytes) }
+    ensures too_long { IsErrOf result ReadFault.TooLong
+        → WhereTold (F.told shelf.old) path.now (λ bytes. limit < length bytes) }
     ensures fault { IsErrOf result ReadFault.Fault
-        → Rose (F.faults shelf.old) (F.faults shelf.new) ⊎ HasNoFile (F.told shelf.old) path.now }
+        → Rose (F.faults shelf.old) (F.faults shelf.new)
+        ⊎ HasNoFile (F.told shelf.old) path.now }
     ensures missing { HasNoFile (F.told shelf.old) path.now
         → IsErrOf result ReadFault.Fault ⊎ IsErrOf result ReadFault.NoMemory }
 
@@ -67,8 +71,8 @@ pub fn read_text<F: Shelf>(
     ensures honest { (bytes : List ℕ) → HasFile (F.told shelf.old) path.now bytes
         → ¬ Rose (F.faults shelf.old) (F.faults shelf.new) → IsAnswerFor bytes limit result }
 
-    ensures told { F.told shelf.new ≡ F.told shelf.old }
-    ensures counts { F.faults shelf.old ≤ F.faults shelf.new }
+    ensures unchanged { F.told shelf.new ≡ F.told shelf.old }
+    ensures not_fewer { F.faults shelf.old ≤ F.faults shelf.new }
     ensures reads { F.reads shelf.new ≤ F.reads shelf.old + limit + 1 }
 {
     let most = limit as usize + 1;
@@ -83,7 +87,8 @@ pub fn read_text<F: Shelf>(
     Err(ReadFault::TooLong)
 }
 
-/// Reads once from behind what was read, and appends what came. The number is that of the bytes that came.
+/// Reads once from behind what was read, and appends what came. The number is that of the bytes
+/// that came.
 fn read_piece<F: Shelf>(
     shelf: &mut F,
     path: &str,
@@ -92,11 +97,13 @@ fn read_piece<F: Shelf>(
 ) -> Result<usize, ReadFault>
     ensures within { IfOk result (λ n. n ≤ length piece.old) }
     ensures text_length { IfOk result (λ n. vec_len text.new ≡ vec_len text.old + n) }
-    ensures copied { IfOk result (λ n. WhereTold (F.told shelf.old) path.now (λ bytes. Copies bytes (vec_len text.old) n piece.new)) }
+    ensures copied { IfOk result (λ n. WhereTold (F.told shelf.old) path.now
+        (λ bytes. Copies bytes (vec_len text.old) n piece.new)) }
     ensures appended { IfOk result (λ n. text.new.items ≡ text.old.items ++ take n piece.new) }
-    ensures cause { IfErr result (λ e. HasCause e (F.told shelf.old) path.now (F.faults shelf.old) (F.faults shelf.new)) }
-    ensures told { F.told shelf.new ≡ F.told shelf.old }
-    ensures counts { F.faults shelf.old ≤ F.faults shelf.new }
+    ensures cause { IfErr result (λ e.
+        HasCause e (F.told shelf.old) path.now (F.faults shelf.old) (F.faults shelf.new)) }
+    ensures unchanged { F.told shelf.new ≡ F.told shelf.old }
+    ensures not_fewer { F.faults shelf.old ≤ F.faults shelf.new }
     ensures reads { F.reads shelf.new ≤ F.reads shelf.old + 1 }
 {
     let read = shelf.read(path, text.len() as u64, piece)?;

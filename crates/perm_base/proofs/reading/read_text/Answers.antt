@@ -11,7 +11,7 @@ loop-piece-preserved g c =
           c.read_piece.new.piece c.in_ok-read_piece.field-0 (vec_len c.loop-piece.text) c.loop-piece.invariant.told (omega arith) c.loop-piece.invariant.front
           step.copied step.appended;
       most = omega (arith, step.text_length, within);
-      told = c.read_piece.ensures.told ∙ c.loop-piece.invariant.told;
+      told = c.read_piece.ensures.unchanged ∙ c.loop-piece.invariant.told;
       counts = omega (arith, c.loop-piece.invariant.counts);
       reads = omega (arith, c.loop-piece.invariant.reads, step.text_length);
     }

@@ -4,8 +4,8 @@ use Rattle.perm_base.specs.Calls.{is_next_failing}
 use Rattle.perm_base.proofs.mem_sink.MemSinkSink.write.Goals as goal
 use Rattle.perm_base.proofs.mem_sink.MemSinkSink.write.Goals.{then-free-eq0-via-then-free-eq0, then-free-eq0-via-else-free-eq0+then-contains}
 
-pub returns-then-free-eq0-clause-refuses : goal.returns-then-free-eq0-clause-refuses
-returns-then-free-eq0-clause-refuses c = (
+pub returns-then-free-eq0-clause-refused : goal.returns-then-free-eq0-clause-refused
+returns-then-free-eq0-clause-refused c = (
   λ _. elim c.then-free-eq0.branch [
     | then-free-eq0-via-then-free-eq0 w ↦ inr (omega arith)
     | then-free-eq0-via-else-free-eq0+then-contains w ↦
