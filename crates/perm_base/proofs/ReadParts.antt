@@ -1,8 +1,8 @@
 -- How far a file is read.
-use Rattle.std.proofs.Common.{◌≡◌, ℕ, ◌+◌, ◌-◌, ◌<◌, ◌≤◌, List, [], ◌∷◌, ◌++◌, length, take, drop, Option, None, Some, IfSome, IsSomeAnd, refl, sym, subst, ◌∙◌, ap, arith, length-append, length-drop}
-use Rattle.std.proofs.lemmas.List.{length-take-le, take_all}
+use Rattle.std.proofs.Common.{◌≡◌, ℕ, ◌+◌, ◌≤◌, List, ◌++◌, length, take, drop, Option, None, Some, IfSome, IsSomeAnd, sym, subst, ◌∙◌, ap, arith, length-append, length-drop}
+use Rattle.std.proofs.lemmas.List.{length-take-le}
 use Rattle.std.proofs.Math.Seq.{take-add}
-use Rattle.perm_base.specs.Files.{Files, HasFile, HasNoFile, WhereTold, Copies}
+use Rattle.perm_base.specs.Files.{Files, WhereTold, Copies}
 
 -- what was read is the front of the file, and nothing was read where no file is there
 abbrev pub IsFrontOf : Option (List ℕ) → List ℕ → Type 0
@@ -42,38 +42,3 @@ pub more_read : (told now : Option Files) (path text new piece : List ℕ) (n at
     → new ≡ text ++ take n piece → IsFrontWhereTold told path new
 more_read told now path text new piece n at same is front copied longer =
     more_told told path text new piece n at is front (subst (λ t. WhereTold t path (λ bytes. Copies bytes at n piece)) same copied) longer
-
--- `whole_read` at a file
-front_whole : (file : Option (List ℕ)) (text piece : List ℕ) (n at : ℕ) → at ≡ length text → n ≡ 0 → 0 < length piece → IsFrontOf file text
-    → IsSomeAnd file (λ bytes. Copies bytes at n piece) → file ≡ Some text
-front_whole None text piece n at is none room front copied = absurd copied
-front_whole (Some bytes) text piece n at is none room front copied =
-    let all : length bytes ≤ length text = omega (arith, copied.end room none, is) in
-    ap Some (sym (front.0 ∙ take_all (length text) bytes all))
-
--- `whole_read` at what is told
-whole_told : (told : Option Files) (path text piece : List ℕ) (n at : ℕ) → at ≡ length text → n ≡ 0 → 0 < length piece
-    → IsFrontWhereTold told path text → WhereTold told path (λ bytes. Copies bytes at n piece)
-    → IfSome told (λ files. files path ≡ Some text)
-whole_told None path text piece n at is none room front copied = tt
-whole_told (Some files) path text piece n at is none room front copied =
-    front_whole (files path) text piece n at is none room front copied
-
--- where a read gives nothing, the whole file was read before
-pub whole_read : (told now : Option Files) (path text piece : List ℕ) (n at : ℕ) → now ≡ told → at ≡ length text → n ≡ 0 → 0 < length piece
-    → IsFrontWhereTold told path text → WhereTold now path (λ bytes. Copies bytes at n piece)
-    → IfSome told (λ files. files path ≡ Some text)
-whole_read told now path text piece n at same is none room front copied =
-    whole_told told path text piece n at is none room front (subst (λ t. WhereTold t path (λ bytes. Copies bytes at n piece)) same copied)
-
--- `longer_read` at a file
-front_longer : (file : Option (List ℕ)) (text : List ℕ) (limit : ℕ) → limit < length text → IsFrontOf file text
-    → IsSomeAnd file (λ bytes. limit < length bytes)
-front_longer None text limit more front = absurd (omega (arith, front))
-front_longer (Some bytes) text limit more front = omega (arith, front.1)
-
--- a front longer than the limit has a file longer than the limit
-pub longer_read : (told : Option Files) (path text : List ℕ) (limit : ℕ) → limit < length text → IsFrontWhereTold told path text
-    → WhereTold told path (λ bytes. limit < length bytes)
-longer_read None path text limit more front = tt
-longer_read (Some files) path text limit more front = front_longer (files path) text limit more front

@@ -1,5 +1,5 @@
 -- How far a text is written.
-use Rattle.std.proofs.Common.{◌≡◌, ℕ, ◌+◌, ◌-◌, ◌<◌, ◌≤◌, List, [], ◌∷◌, ◌++◌, length, take, drop, Option, None, Some, Result, Ok, Err, OnErr, refl, sym, ◌∙◌, ap, arith, append_assoc, length-append, length-drop, append-nil}
+use Rattle.std.proofs.Common.{◌≡◌, ℕ, ◌-◌, ◌<◌, List, ◌++◌, length, take, drop, Option, None, Some, Result, Ok, Err, OnErr, refl, sym, ◌∙◌, ap, arith, append_assoc, length-append, length-drop}
 use Rattle.std.proofs.lemmas.List.{take-append-drop, take_all}
 use Rattle.std.proofs.Math.Seq.{take-append_seam}
 use Rattle.perm_base.specs.Pieces.{appended, AppendsPart}
@@ -15,17 +15,10 @@ pub record IsWrittenUpTo (old now : Option (List ℕ)) (text rest : List ℕ) : 
   pub split : done ++ rest ≡ text
   pub taken : now ≡ appended old done
 
-pub appended-nil : (old : Option (List ℕ)) → appended old [] ≡ old
-appended-nil None = refl
-appended-nil (Some taken) = ap Some (append-nil taken)
-
+-- two pieces are one
 pub appended-append : (old : Option (List ℕ)) (a b : List ℕ) → appended (appended old a) b ≡ appended old (a ++ b)
 appended-append None a b = refl
 appended-append (Some taken) a b = ap Some (append_assoc taken a b)
-
--- before the first write
-pub nothing_written : (old : Option (List ℕ)) (text : List ℕ) → IsWrittenUpTo old old text text
-nothing_written old text = record { done = []; split = refl; taken = sym (appended-nil old) }
 
 -- after a write of n bytes
 pub more_written : (old now new : Option (List ℕ)) (text rest : List ℕ) (n : ℕ) → IsWrittenUpTo old now text rest
@@ -36,12 +29,6 @@ more_written old now new text rest n before step = record {
       ∙ append_assoc before.done (take n rest) (drop n rest) ∙ ap (λ xs. before.done ++ xs) (take-append-drop n rest) ∙ before.split;
   taken = step ∙ ap (λ told. appended told (take n rest)) before.taken ∙ appended-append old before.done (take n rest);
 }
-
--- where nothing is left
-pub all_written : (old now : Option (List ℕ)) (text rest : List ℕ) → IsWrittenUpTo old now text rest → length rest ≡ 0
-    → now ≡ appended old text
-all_written old now text [] before none = before.taken ∙ ap (λ xs. appended old xs) (sym (append-nil before.done) ∙ before.split)
-all_written old now text (b ∷ rest) before none = absurd (omega (arith, none))
 
 -- where a write is refused
 pub part_written : (old now new : Option (List ℕ)) (text rest : List ℕ) → IsWrittenUpTo old now text rest → 0 < length rest

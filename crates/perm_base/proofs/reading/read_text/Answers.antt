@@ -1,5 +1,5 @@
-use Rattle.std.proofs.Common.{◌≤◌, ◌+◌, ◌<◌, vec_len, length, arith, refl, ap, ◌∙◌, length-take}
-use Rattle.perm_base.proofs.ReadParts.{more_read, whole_read, longer_read}
+use Rattle.std.proofs.Common.{◌≤◌, vec_len, arith, ◌∙◌, length-take}
+use Rattle.perm_base.proofs.ReadParts.{more_read}
 use Rattle.perm_base.proofs.reading.read_text.Goals as goal
 
 pub loop-piece-preserved : goal.loop-piece-preserved

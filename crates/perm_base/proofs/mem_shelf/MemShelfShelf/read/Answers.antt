@@ -1,4 +1,4 @@
-use Rattle.std.proofs.Common.{IsTrue, refl, sym, ◌∙◌, ap, inl, rules, arith}
+use Rattle.std.proofs.Common.{IsTrue, refl, inl, rules}
 use Rattle.std.proofs.lemmas.Grind.{common_steps}
 use Rattle.perm_base.specs.Calls.{is_next_failing}
 use Rattle.perm_base.proofs.mem_shelf.MemShelfShelf.read.Goals as goal
