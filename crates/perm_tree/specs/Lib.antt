@@ -1,3 +1,4 @@
 pub mod Places
 pub mod Lows
 pub mod UnitTables
+pub mod Code
