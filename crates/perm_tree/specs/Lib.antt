@@ -1,4 +1,9 @@
 pub mod Places
 pub mod Lows
 pub mod UnitTables
+pub mod Spelling
+pub mod Scopes
+pub mod Lookup
 pub mod Code
+pub mod Ties
+pub mod CodeOf
