@@ -7,3 +7,5 @@ pub mod Lookup
 pub mod Code
 pub mod Ties
 pub mod CodeOf
+pub mod Vars
+pub mod Mentions
