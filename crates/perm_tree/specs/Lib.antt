@@ -9,3 +9,5 @@ pub mod Ties
 pub mod CodeOf
 pub mod Vars
 pub mod Mentions
+pub mod Names
+pub mod Resolves
