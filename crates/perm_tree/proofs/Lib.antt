@@ -1,2 +1,6 @@
 pub mod Lows
 pub mod Pushes
+pub mod Builder
+pub mod Programs
+pub mod ParPrograms
+pub mod ProgramTexts
