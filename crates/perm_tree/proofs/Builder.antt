@@ -33,11 +33,12 @@ use Rattle.perm_tree.specs.Spelling.{same_bytes}
 use Rattle.perm_tree.specs.UnitTables.{Tables}
 
 -- ---------- what is written so far ----------
--- the text with its last byte first, its length, the number of open braces, and the program
+-- the text with its last byte first, its length, the number of open braces, whether all stands on one line, and the program
 pub record Draft : Type 0 where
   pub text : List ℕ
   pub at : ℕ
   pub depth : ℕ
+  pub flat : Bool
   pub program : Listing
 
 -- a form of the language: it writes itself behind a draft, and gives what it is in the flat program
@@ -80,12 +81,23 @@ abbrev spaces : ℕ → List ℕ
 spaces zero = []
 spaces (suc n) = 32 ∷ 32 ∷ spaces n
 
+abbrev layout : (Bool → List ℕ) → Writes (Unit {0})
+layout f d = bytes (f d.flat) d
+
+abbrev indented : ℕ → Bool → List ℕ
+indented depth true = []
+indented depth false = spaces depth
+
+abbrev ended : Bool → List ℕ
+ended true = 32 ∷ []
+ended false = 10 ∷ []
+
 abbrev indentation : Writes (Unit {0})
-indentation d = bytes (spaces d.depth) d
+indentation d = layout (indented d.depth) d
 
 -- a form on a line of its own
 abbrev pub line : {A : Type 0} → Writes A → Writes A
-line w = indentation >> w << "\n"
+line w = indentation >> w >>= λ a. layout ended >> give a
 
 abbrev spanned : {A : Type 0} → ℕ → Draft × A → Draft × (Span × A)
 spanned start r = (r.0, (record { start = start; end = r.0.at }, r.1))
@@ -103,7 +115,7 @@ deeper w d = risen d.depth (w (record d { depth = suc d.depth }))
 
 -- `{`, a form on lines of its own, and `}`
 abbrev pub braces : {A : Type 0} → Writes A → Writes A
-braces w = say "{\n" >> deeper w >>= λ a. indentation >> say "}" >> give a
+braces w = say "{" >> layout ended >> deeper w >>= λ a. indentation >> say "}" >> give a
 
 -- forms one after the other
 abbrev pub each : {A : Type 0} → List (Writes A) → Writes (List A)
@@ -148,9 +160,12 @@ interned w d = interned_at w (position_or_len (same_bytes w) d.program.names) d
 abbrev name_of : Span × ℕ → Ident
 name_of r = record { name = r.1; span = r.0 }
 
--- a name where it stands
+-- a name of these bytes where it stands
+abbrev pub word : List ℕ → Writes Ident
+word w = span_of (bytes w >> interned w) >>= λ r. give (name_of r)
+
 abbrev pub name : String → Writes Ident
-name w = span_of (say w >> interned (codes w)) >>= λ r. give (name_of r)
+name w = word (codes w)
 
 -- the name of a class in a type or after `new`
 abbrev pub class_name : String → Writes Ident
@@ -176,11 +191,11 @@ ref p c = say (perm_word p) >> say " " >> class_name c >>= λ i. give (Ref p (Cl
 abbrev pub array : Perm → Writes Ty
 array p = say (perm_word p) >> say " long[]" >> give (Ref p Array)
 
-abbrev of_type : Writes Ty → String → Writes FieldDecl
-of_type t x = t >>= λ ty. say " " >> name x >>= λ i. give (record { ty = ty; name = i })
+abbrev of_type : Writes Ty → Writes Ident → Writes FieldDecl
+of_type t x = t >>= λ ty. say " " >> x >>= λ i. give (record { ty = ty; name = i })
 
 -- ---------- expressions ----------
-abbrev digits_within : ℕ → ℕ → List ℕ
+abbrev pub digits_within : ℕ → ℕ → List ℕ
 digits_within zero n = []
 digits_within (suc most) n = (if nat_lt n 10 then [] else digits_within most (n / 10)) ++ (48 + n % 10) ∷ []
 
@@ -302,15 +317,18 @@ lines ls = each (map line ls) >>= λ iss. give (joined iss)
 abbrev block : List Line → Writes Block
 block ls = braces (lines ls)
 
+abbrev pub declare_as : Writes Ty → Writes Ident → Line
+declare_as t x = simple (of_type t x >>= λ d. give (Declare d.ty d.name))
+
 abbrev pub declare : Writes Ty → String → Line
-declare t x = simple (of_type t x >>= λ d. give (Declare d.ty d.name))
+declare t x = declare_as t (name x)
 
 abbrev assigned : Option Ty → Ident → Writes Rhs → Writes StmtKind
 assigned t x r = say " = " >> r >>= λ rhs. give (Assign t x rhs)
 
 -- a declaration with a value
 abbrev pub init : Writes Ty → String → Writes Rhs → Line
-init t x r = simple (of_type t x >>= λ d. assigned (Some d.ty) d.name r)
+init t x r = simple (of_type t (name x) >>= λ d. assigned (Some d.ty) d.name r)
 
 abbrev pub assign : String → Writes Rhs → Line
 assign x r = simple (name x >>= λ i. assigned None i r)
@@ -325,7 +343,7 @@ recovering target ls w =
 
 -- a declaration with a recover block, which gives the variable w
 abbrev pub init_recover : Writes Ty → String → List Line → String → Line
-init_recover t x ls w = recovering (of_type t x >>= λ d. give {A = Option Ty × Ident} (Some d.ty, d.name)) ls w
+init_recover t x ls w = recovering (of_type t (name x) >>= λ d. give {A = Option Ty × Ident} (Some d.ty, d.name)) ls w
 
 abbrev pub assign_recover : String → List Line → String → Line
 assign_recover x ls w = recovering (name x >>= λ i. give {A = Option Ty × Ident} (None, i)) ls w
@@ -364,10 +382,13 @@ pub data Member : Type 0 where
   OfMethod : (d : Method) → Member
 
 abbrev pub param : Writes Ty → String → Writes FieldDecl
-param t x = of_type t x
+param t x = of_type t (name x)
+
+abbrev pub field_as : Writes Ty → Writes Ident → Writes Member
+field_as t x = of_type t x << ";" >>= λ f. give (OfField f)
 
 abbrev pub field : Writes Ty → String → Writes Member
-field t x = of_type t x << ";" >>= λ f. give (OfField f)
+field t x = field_as t (name x)
 
 abbrev returned : Writes Arg → Writes (Span × Arg)
 returned a = span_of (say "return " >> a << ";")
@@ -375,7 +396,7 @@ returned a = span_of (say "return " >> a << ";")
 -- a method with its parameters, its permission, its body and what it returns
 abbrev pub «method» : Writes Ty → String → List (Writes FieldDecl) → Perm → List Line → Writes Arg → Writes Member
 «method» t m ps p ls a =
-    of_type t m >>= λ h. parens (separated ps) << " " >>= λ fs. say (perm_word p) >> say " "
+    of_type t (name m) >>= λ h. parens (separated ps) << " " >>= λ fs. say (perm_word p) >> say " "
     >> braces (lines ls >>= λ b. line (returned a) >>= λ r. give {A = Block × (Span × Arg)} (b, r)) >>= λ b.
     give (OfMethod (record { result = h.ty; name = h.name; params = fs; receiver = p; body = b.0; back = b.1.1; span = b.1.0 }))
 
@@ -401,15 +422,26 @@ class c ms =
 abbrev pub Source : Type 0
 Source = List (Writes (Unit {0}))
 
-abbrev nothing_yet : Draft
-nothing_yet = record { text = []; at = 0; depth = 0; program = record { names = codes "this" ∷ []; classes = []; stmts = []; exprs = []; mentions = [] } }
+abbrev nothing_yet : Bool → Draft
+nothing_yet flat = record { text = []; at = 0; depth = 0; flat = flat; program = record { names = codes "this" ∷ []; classes = []; stmts = []; exprs = []; mentions = [] } }
 
-abbrev drafted : Source → Draft
-drafted s = (each (map line s) nothing_yet).0
+abbrev drafted : Bool → Source → Draft
+drafted flat s = (each (map line s) (nothing_yet flat)).0
 
 -- its text
 abbrev pub text_of : Source → List ℕ
-text_of s = onto (drafted s).text []
+text_of s = onto (drafted false s).text []
+
+-- its flat program, as reading the text gives it
+abbrev pub listing_of : Source → Listing
+listing_of s = (drafted false s).program
+
+-- the same where all stands on one line
+abbrev pub flat_text_of : Source → List ℕ
+flat_text_of s = onto (drafted true s).text []
+
+abbrev pub flat_listing_of : Source → Listing
+flat_listing_of s = (drafted true s).program
 
 abbrev place_behind : ℕ → ℕ × ℕ → ℕ × ℕ
 place_behind b place = if nat_eq b 10 then (suc place.0, 1) else (place.0, suc place.1)
@@ -419,13 +451,9 @@ place_from place zero bs = place
 place_from place (suc at) [] = place
 place_from place (suc at) (b ∷ bs) = place_from (place_behind b place) at bs
 
--- the line and the column of a byte of its text, each counted from 1
-abbrev pub place_in : Source → ℕ → ℕ × ℕ
-place_in s at = place_from (1, 1) at (text_of s)
-
--- its flat program, as reading the text gives it
-abbrev pub listing_of : Source → Listing
-listing_of s = (drafted s).program
+-- the line and the column of a byte of a text, each counted from 1
+abbrev pub place_in : List ℕ → ℕ → ℕ × ℕ
+place_in text at = place_from (1, 1) at text
 
 -- the unit that a program is resolved to
 abbrev pub unit_of : Listing → Tables

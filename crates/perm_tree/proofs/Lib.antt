@@ -4,3 +4,4 @@ pub mod Builder
 pub mod Programs
 pub mod ParPrograms
 pub mod ProgramTexts
+pub mod NameRows

@@ -10,23 +10,23 @@ use Rattle.perm_tree.proofs.Programs.{run_method, main_only}
 abbrev node : Writes (Unit {0})
 node =
     class "Node" (
-      field (ref Writable "Node") "left"
-      ∷ field (ref Writable "Node") "right"
-      ∷ field long "value"
-      ∷ «method» long "Sum" [] Readable (
-        init long "s" (expr (num 0))
-        ∷ init (ref Readable "Node") "l" (get "this" "left")
-        ∷ init (ref Readable "Node") "r" (get "this" "right")
-        ∷ if_else (binary (var "l") Equal null) (assign "s" (get "this" "value") ∷ []) (
-          init long "a" (expr (num 0))
-          ∷ init long "b" (expr (num 0))
-          ∷ par (assign "a" (result_of (call "l" "Sum" [])) ∷ []) (assign "b" (result_of (call "r" "Sum" [])) ∷ [])
-          ∷ assign "s" (expr (binary (var "a") Plus (var "b")))
-          ∷ []
-        )
-        ∷ []
-      ) (value (var "s"))
-      ∷ []
+    field (ref Writable "Node") "left"
+    ∷ field (ref Writable "Node") "right"
+    ∷ field long "value"
+    ∷ «method» long "Sum" [] Readable (
+    init long "s" (expr (num 0))
+    ∷ init (ref Readable "Node") "l" (get "this" "left")
+    ∷ init (ref Readable "Node") "r" (get "this" "right")
+    ∷ if_else (binary (var "l") Equal null) (assign "s" (get "this" "value") ∷ []) (
+    init long "a" (expr (num 0))
+    ∷ init long "b" (expr (num 0))
+    ∷ par (assign "a" (result_of (call "l" "Sum" [])) ∷ []) (assign "b" (result_of (call "r" "Sum" [])) ∷ [])
+    ∷ assign "s" (expr (binary (var "a") Plus (var "b")))
+    ∷ []
+    )
+    ∷ []
+    ) (value (var "s"))
+    ∷ []
     )
 
 abbrev depth_less : Writes ℕ
@@ -43,33 +43,33 @@ abbrev pub p3 : ℕ → Source
 p3 size =
     node
     ∷ class "Main" (
-      «method» (ref Isolated "Node") "Build" (param long "depth" ∷ param long "at" ∷ param (array Immutable) "input" ∷ []) Readable (
-        init (ref Isolated "Node") "n" (new "Node")
-        ∷ if_else (binary (var "depth") Equal (num 0)) (
-          init long "v" (get_item "input" (var "at"))
-          ∷ set_field "n" "value" (value (var "v"))
-          ∷ []
-        ) (
-          init (ref Isolated "Node") "l" (expr null)
-          ∷ init (ref Isolated "Node") "r" (expr null)
-          ∷ par (half "l" at_twice ∷ []) (half "r" (binary at_twice Plus (num 1)) ∷ [])
-          ∷ assign_recover "n" (
-            init (ref Writable "Node") "w" (consumed "n")
-            ∷ set_field "w" "left" (consume "l")
-            ∷ set_field "w" "right" (consume "r")
-            ∷ []
-          ) "w"
-          ∷ []
-        )
-        ∷ []
-      ) (consume "n")
-      ∷ run_method (
-        init (ref Isolated "Node") "root" (result_of (call "this" "Build" (value (num size) ∷ value (num 0) ∷ value (var "input") ∷ [])))
-        ∷ init long "total" (result_of (call "root" "Sum" []))
-        ∷ print (var "total")
-        ∷ []
-      ) (num 0)
-      ∷ []
+    «method» (ref Isolated "Node") "Build" (param long "depth" ∷ param long "at" ∷ param (array Immutable) "input" ∷ []) Readable (
+    init (ref Isolated "Node") "n" (new "Node")
+    ∷ if_else (binary (var "depth") Equal (num 0)) (
+    init long "v" (get_item "input" (var "at"))
+    ∷ set_field "n" "value" (value (var "v"))
+    ∷ []
+    ) (
+    init (ref Isolated "Node") "l" (expr null)
+    ∷ init (ref Isolated "Node") "r" (expr null)
+    ∷ par (half "l" at_twice ∷ []) (half "r" (binary at_twice Plus (num 1)) ∷ [])
+    ∷ assign_recover "n" (
+    init (ref Writable "Node") "w" (consumed "n")
+    ∷ set_field "w" "left" (consume "l")
+    ∷ set_field "w" "right" (consume "r")
+    ∷ []
+    ) "w"
+    ∷ []
+    )
+    ∷ []
+    ) (consume "n")
+    ∷ run_method (
+    init (ref Isolated "Node") "root" (result_of (call "this" "Build" (value (num size) ∷ value (num 0) ∷ value (var "input") ∷ [])))
+    ∷ init long "total" (result_of (call "root" "Sum" []))
+    ∷ print (var "total")
+    ∷ []
+    ) (num 0)
+    ∷ []
     )
     ∷ []
 
@@ -77,28 +77,28 @@ p3 size =
 abbrev pub p4_with : Line → Line → Line → Source
 p4_with line15 line18 line20 =
     class "Child" (
-      field long "n"
-      ∷ «method» long "Bump" [] Writable (
-        init long "v" (get "this" "n")
-        ∷ set_field "this" "n" (value (binary (var "v") Plus (num 1)))
-        ∷ []
-      ) (value (binary (var "v") Plus (num 1)))
-      ∷ []
+    field long "n"
+    ∷ «method» long "Bump" [] Writable (
+    init long "v" (get "this" "n")
+    ∷ set_field "this" "n" (value (binary (var "v") Plus (num 1)))
+    ∷ []
+    ) (value (binary (var "v") Plus (num 1)))
+    ∷ []
     )
     ∷ class "Main" (
-      field (ref Isolated "Child") "child"
-      ∷ field long "mark"
-      ∷ run_method (
-        init (ref Isolated "Child") "c" (new "Child")
-        ∷ set_field "this" "child" (consume "c")
-        ∷ line15
-        ∷ init long "got" (expr (num 0))
-        ∷ par (line18 ∷ []) (line20 ∷ [])
-        ∷ set_field "this" "child" (consume "d")
-        ∷ print (var "got")
-        ∷ []
-      ) (num 0)
-      ∷ []
+    field (ref Isolated "Child") "child"
+    ∷ field long "mark"
+    ∷ run_method (
+    init (ref Isolated "Child") "c" (new "Child")
+    ∷ set_field "this" "child" (consume "c")
+    ∷ line15
+    ∷ init long "got" (expr (num 0))
+    ∷ par (line18 ∷ []) (line20 ∷ [])
+    ∷ set_field "this" "child" (consume "d")
+    ∷ print (var "got")
+    ∷ []
+    ) (num 0)
+    ∷ []
     )
     ∷ []
 
@@ -144,14 +144,14 @@ p10 = zero_by (by_zero ∷ []) (init (array Writable) "a" (new_array (num 8)) �
 abbrev pub p11_with : Line → Source
 p11_with line8 =
     main_only (
-      run_method (
-        init long "a" (expr (num 0))
-        ∷ init long "b" (expr (num 0))
-        ∷ par (assign "a" (expr (num 1)) ∷ []) (line8 ∷ [])
-        ∷ print (binary (var "a") Plus (var "b"))
-        ∷ []
-      ) (num 0)
-      ∷ []
+    run_method (
+    init long "a" (expr (num 0))
+    ∷ init long "b" (expr (num 0))
+    ∷ par (assign "a" (expr (num 1)) ∷ []) (line8 ∷ [])
+    ∷ print (binary (var "a") Plus (var "b"))
+    ∷ []
+    ) (num 0)
+    ∷ []
     )
 
 abbrev pub p11 : Source

@@ -22,18 +22,18 @@ unit s = unit_of (listing_of s)
 abbrev pub p1_with : Line → Source
 p1_with line8 =
     main_only (
-      field long "x"
-      ∷ field long "y"
-      ∷ run_method (
-        init (ref Isolated "Main") "p" (new "Main")
-        ∷ set_field "p" "x" (value (num 3))
-        ∷ set_field "p" "y" (value (num 4))
-        ∷ line8
-        ∷ init long "b" (get "p" "y")
-        ∷ print (binary (var "a") Plus (var "b"))
-        ∷ []
-      ) (num 0)
-      ∷ []
+    field long "x"
+    ∷ field long "y"
+    ∷ run_method (
+    init (ref Isolated "Main") "p" (new "Main")
+    ∷ set_field "p" "x" (value (num 3))
+    ∷ set_field "p" "y" (value (num 4))
+    ∷ line8
+    ∷ init long "b" (get "p" "y")
+    ∷ print (binary (var "a") Plus (var "b"))
+    ∷ []
+    ) (num 0)
+    ∷ []
     )
 
 abbrev pub p1 : Source
@@ -47,45 +47,45 @@ p1_gone = p1_with (init (ref Immutable "Main") "q" (consumed "p"))
 abbrev pub p2 : Source
 p2 =
     class "Cell" (
-      field long "value"
-      ∷ field (ref Writable "Cell") "next"
-      ∷ «method» long "Total" [] Readable (
-        init long "s" (get "this" "value")
-        ∷ init (ref Readable "Cell") "n" (get "this" "next")
-        ∷ if_else (binary (var "n") Equal null) [] (
-          init long "t" (result_of (call "n" "Total" []))
-          ∷ assign "s" (expr (binary (var "s") Plus (var "t")))
-          ∷ []
-        )
-        ∷ []
-      ) (value (var "s"))
-      ∷ []
+    field long "value"
+    ∷ field (ref Writable "Cell") "next"
+    ∷ «method» long "Total" [] Readable (
+    init long "s" (get "this" "value")
+    ∷ init (ref Readable "Cell") "n" (get "this" "next")
+    ∷ if_else (binary (var "n") Equal null) [] (
+    init long "t" (result_of (call "n" "Total" []))
+    ∷ assign "s" (expr (binary (var "s") Plus (var "t")))
+    ∷ []
+    )
+    ∷ []
+    ) (value (var "s"))
+    ∷ []
     )
     ∷ class "Main" (
-      field (ref Immutable "Cell") "list"
-      ∷ run_method (
-        init_recover (ref Immutable "Cell") "c" (
-          init (ref Writable "Cell") "head" (expr null)
-          ∷ init long "i" (expr (num 0))
-          ∷ init long "n" (get "input" "Length")
-          ∷ while (binary (var "i") Less (var "n")) (
-            init (ref Writable "Cell") "k" (new "Cell")
-            ∷ init long "v" (get_item "input" (var "i"))
-            ∷ set_field "k" "value" (value (var "v"))
-            ∷ set_field "k" "next" (value (var "head"))
-            ∷ assign "head" (expr (var "k"))
-            ∷ assign "i" (expr (binary (var "i") Plus (num 1)))
-            ∷ []
-          )
-          ∷ init (ref Readable "Cell") "r" (expr (var "head"))
-          ∷ []
-        ) "r"
-        ∷ set_field "this" "list" (value (var "c"))
-        ∷ init long "total" (result_of (call "c" "Total" []))
-        ∷ print (var "total")
-        ∷ []
-      ) (var "total")
-      ∷ []
+    field (ref Immutable "Cell") "list"
+    ∷ run_method (
+    init_recover (ref Immutable "Cell") "c" (
+    init (ref Writable "Cell") "head" (expr null)
+    ∷ init long "i" (expr (num 0))
+    ∷ init long "n" (get "input" "Length")
+    ∷ while (binary (var "i") Less (var "n")) (
+    init (ref Writable "Cell") "k" (new "Cell")
+    ∷ init long "v" (get_item "input" (var "i"))
+    ∷ set_field "k" "value" (value (var "v"))
+    ∷ set_field "k" "next" (value (var "head"))
+    ∷ assign "head" (expr (var "k"))
+    ∷ assign "i" (expr (binary (var "i") Plus (num 1)))
+    ∷ []
+    )
+    ∷ init (ref Readable "Cell") "r" (expr (var "head"))
+    ∷ []
+    ) "r"
+    ∷ set_field "this" "list" (value (var "c"))
+    ∷ init long "total" (result_of (call "c" "Total" []))
+    ∷ print (var "total")
+    ∷ []
+    ) (var "total")
+    ∷ []
     )
     ∷ []
 
@@ -94,13 +94,13 @@ abbrev pub p5_with : Writes ℕ → Line → Line → Source
 p5_with test line9 line10 =
     class "Box" (field long "n" ∷ [])
     ∷ class "Main" (
-      run_method (
-        init (ref Isolated "Box") "b" (new "Box")
-        ∷ init long "i" (expr (num 0))
-        ∷ while test (line9 ∷ line10 ∷ [])
-        ∷ []
-      ) (var "i")
-      ∷ []
+    run_method (
+    init (ref Isolated "Box") "b" (new "Box")
+    ∷ init long "i" (expr (num 0))
+    ∷ while test (line9 ∷ line10 ∷ [])
+    ∷ []
+    ) (var "i")
+    ∷ []
     )
     ∷ []
 
@@ -133,17 +133,17 @@ abbrev pub p6_with : Perm → Source
 p6_with line7 =
     class "Box" (field (ref Readable "Box") "other" ∷ [])
     ∷ class "Main" (
-      run_method (
-        init (ref Isolated "Box") "a" (new "Box")
-        ∷ init (ref line7 "Box") "r" (consumed "a")
-        ∷ init_recover (ref Isolated "Box") "x" (
-          init (ref Writable "Box") "w" (new "Box")
-          ∷ set_field "w" "other" (value (var "r"))
-          ∷ []
-        ) "w"
-        ∷ []
-      ) (num 0)
-      ∷ []
+    run_method (
+    init (ref Isolated "Box") "a" (new "Box")
+    ∷ init (ref line7 "Box") "r" (consumed "a")
+    ∷ init_recover (ref Isolated "Box") "x" (
+    init (ref Writable "Box") "w" (new "Box")
+    ∷ set_field "w" "other" (value (var "r"))
+    ∷ []
+    ) "w"
+    ∷ []
+    ) (num 0)
+    ∷ []
     )
     ∷ []
 
@@ -161,12 +161,12 @@ abbrev pub p7 : Source
 p7 =
     class "Box" («method» long "Eat" (param (ref Immutable "Box") "o" ∷ []) Writable [] (value (num 0)) ∷ [])
     ∷ class "Main" (
-      run_method (
-        init (ref Isolated "Box") "y" (new "Box")
-        ∷ init long "t" (result_of (call "y" "Eat" (consume "y" ∷ [])))
-        ∷ []
-      ) (var "t")
-      ∷ []
+    run_method (
+    init (ref Isolated "Box") "y" (new "Box")
+    ∷ init long "t" (result_of (call "y" "Eat" (consume "y" ∷ [])))
+    ∷ []
+    ) (var "t")
+    ∷ []
     )
     ∷ []
 
@@ -174,14 +174,14 @@ p7 =
 abbrev pub p8 : Source
 p8 =
     main_only (
-      run_method (
-        init long "a" (get_item "input" (num 0))
-        ∷ init long "b" (get_item "input" (num 1))
-        ∷ print (binary (var "a") Div (var "b"))
-        ∷ print (binary (var "a") Rem (var "b"))
-        ∷ []
-      ) (binary (var "a") Minus (var "b"))
-      ∷ []
+    run_method (
+    init long "a" (get_item "input" (num 0))
+    ∷ init long "b" (get_item "input" (num 1))
+    ∷ print (binary (var "a") Div (var "b"))
+    ∷ print (binary (var "a") Rem (var "b"))
+    ∷ []
+    ) (binary (var "a") Minus (var "b"))
+    ∷ []
     )
 
 -- ---------- a ring of two objects that share a leaf ----------
@@ -190,21 +190,21 @@ p12 =
     class "Leaf" (field long "n" ∷ [])
     ∷ class "Ring" (field (ref Writable "Ring") "next" ∷ field (ref Immutable "Leaf") "leaf" ∷ [])
     ∷ class "Main" (
-      field (ref Writable "Ring") "ring"
-      ∷ run_method (
-        init (ref Isolated "Leaf") "m" (new "Leaf")
-        ∷ set_field "m" "n" (value (num 9))
-        ∷ init (ref Immutable "Leaf") "f" (consumed "m")
-        ∷ init (ref Writable "Ring") "a" (new "Ring")
-        ∷ init (ref Writable "Ring") "b" (new "Ring")
-        ∷ set_field "a" "next" (value (var "b"))
-        ∷ set_field "b" "next" (value (var "a"))
-        ∷ set_field "a" "leaf" (value (var "f"))
-        ∷ set_field "b" "leaf" (value (var "f"))
-        ∷ set_field "this" "ring" (value (var "a"))
-        ∷ []
-      ) (num 0)
-      ∷ []
+    field (ref Writable "Ring") "ring"
+    ∷ run_method (
+    init (ref Isolated "Leaf") "m" (new "Leaf")
+    ∷ set_field "m" "n" (value (num 9))
+    ∷ init (ref Immutable "Leaf") "f" (consumed "m")
+    ∷ init (ref Writable "Ring") "a" (new "Ring")
+    ∷ init (ref Writable "Ring") "b" (new "Ring")
+    ∷ set_field "a" "next" (value (var "b"))
+    ∷ set_field "b" "next" (value (var "a"))
+    ∷ set_field "a" "leaf" (value (var "f"))
+    ∷ set_field "b" "leaf" (value (var "f"))
+    ∷ set_field "this" "ring" (value (var "a"))
+    ∷ []
+    ) (num 0)
+    ∷ []
     )
     ∷ []
 
@@ -212,21 +212,21 @@ p12 =
 abbrev pub p13 : Source
 p13 =
     main_only (
-      «method» long "F" [] Readable (init long "t" (result_of (call "this" "F" [])) ∷ []) (value (var "t"))
-      ∷ run_method (init long "t" (result_of (call "this" "F" [])) ∷ []) (var "t")
-      ∷ []
+    «method» long "F" [] Readable (init long "t" (result_of (call "this" "F" [])) ∷ []) (value (var "t"))
+    ∷ run_method (init long "t" (result_of (call "this" "F" [])) ∷ []) (var "t")
+    ∷ []
     )
 
 -- ---------- the input kept in a field ----------
 abbrev pub p14 : Source
 p14 =
     main_only (
-      field (array Immutable) "kept"
-      ∷ field bool "on"
-      ∷ run_method (
-        set_field "this" "kept" (value (var "input"))
-        ∷ set_field "this" "on" (value (truth true))
-        ∷ []
-      ) (num 0)
-      ∷ []
+    field (array Immutable) "kept"
+    ∷ field bool "on"
+    ∷ run_method (
+    set_field "this" "kept" (value (var "input"))
+    ∷ set_field "this" "on" (value (truth true))
+    ∷ []
+    ) (num 0)
+    ∷ []
     )

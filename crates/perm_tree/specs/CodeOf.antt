@@ -19,6 +19,7 @@ use Rattle.perm_tree.specs.declared.ast.Method.{Method}
 use Rattle.perm_tree.specs.declared.unit.VarInfo.{VarInfo}
 use Rattle.perm_tree.specs.declared.unit.MethodTable.{MethodTable}
 use Rattle.perm_tree.specs.Code.{Term, LongLit, BoolLit, NullLit, Local, Unary, Binary, Argument, Expression, Consumed, Instruction, Declare, Assign, LoadField, LoadLength, LoadItem, TakeField, NewObject, NewArray, StoreField, StoreItem, Invoke, Print, Tie, Code, End, Give, Return, Do, If, While, Par, Recover, Routine, UnitCode}
+use Rattle.perm_tree.specs.Entries.{entries_of}
 use Rattle.perm_tree.specs.Lookup.{var_place, var_ty, class_place, field_place, is_array, method_of, method_place, main_place, run_place}
 use Rattle.perm_tree.specs.Scopes.{declared_at, else_stmts}
 use Rattle.perm_tree.specs.Spelling.{length_word, is_word}
@@ -35,13 +36,9 @@ term_of vars terms (Var x) = Local (var_place vars x)
 term_of vars terms (UnaryExpr op a) = Unary op (get_or terms a NullLit)
 term_of vars terms (BinaryExpr op a b) = Binary op (get_or terms a NullLit) (get_or terms b NullLit)
 
-abbrev pub terms_from : List VarInfo → List Term → List Expr → List Term
-terms_from vars terms [] = terms
-terms_from vars terms (e ∷ es) = terms_from vars (terms ++ term_of vars terms e ∷ []) es
-
 -- the terms of all expressions, with the variables of one method
 abbrev pub terms_of : List VarInfo → List Expr → List Term
-terms_of vars exprs = terms_from vars [] exprs
+terms_of vars exprs = entries_of (term_of vars) exprs
 
 -- ---------- simple statements ----------
 -- what the code of a method is made with: the unit, the method's variables, and the terms of all expressions
@@ -137,13 +134,9 @@ kind_code k codes s (WhileStmt e a) rest = While s.head (term_at k e) (own_vars 
 kind_code k codes s (ParStmt a b) rest =
     Par s.head (own_vars k a.stmts) (sequence codes a.stmts End) (own_vars k b.stmts) (sequence codes b.stmts End) rest
 
-abbrev pub codes_from : Setting → List (Code → Code) → List Stmt → List (Code → Code)
-codes_from k codes [] = codes
-codes_from k codes (s ∷ ss) = codes_from k (codes ++ kind_code k codes s s.kind ∷ []) ss
-
 -- the codes of all statements, each before any rest
 abbrev pub codes_of : Setting → List (Code → Code)
-codes_of k = codes_from k [] k.tables.program.stmts
+codes_of k = entries_of (λ codes s. kind_code k codes s s.kind) k.tables.program.stmts
 
 -- the code of the statement at a place, before a rest
 abbrev pub stmt_code : Setting → ℕ → Code → Code

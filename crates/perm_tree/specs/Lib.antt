@@ -1,6 +1,7 @@
 pub mod Places
 pub mod Lows
 pub mod UnitTables
+pub mod Entries
 pub mod Spelling
 pub mod Scopes
 pub mod Lookup

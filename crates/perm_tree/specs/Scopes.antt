@@ -14,6 +14,7 @@ use Rattle.perm_tree.specs.declared.ast.Method.{Method}
 use Rattle.perm_tree.specs.declared.ast.ClassDecl.{ClassDecl}
 use Rattle.perm_tree.specs.declared.unit.VarInfo.{VarInfo}
 use Rattle.perm_tree.specs.declared.unit.MethodTable.{MethodTable}
+use Rattle.perm_tree.specs.Entries.{entries_of}
 use Rattle.perm_tree.specs.Places.{Listing}
 
 -- what a statement declares in the block in which it stands
@@ -70,13 +71,9 @@ inner_vars stmts inner (While e a) = braced_vars stmts inner a.stmts
 inner_vars stmts inner (Par a b) = braced_vars stmts inner a.stmts ++ braced_vars stmts inner b.stmts
 inner_vars stmts inner _ = []
 
-abbrev pub all_inner_from : List Stmt → List (List VarInfo) → List Stmt → List (List VarInfo)
-all_inner_from stmts inner [] = inner
-all_inner_from stmts inner (s ∷ ss) = all_inner_from stmts (inner ++ inner_vars stmts inner s.kind ∷ []) ss
-
 -- the same for each statement of a program
 abbrev pub all_inner : List Stmt → List (List VarInfo)
-all_inner stmts = all_inner_from stmts [] stmts
+all_inner stmts = entries_of (λ inner s. inner_vars stmts inner s.kind) stmts
 
 -- `this` and the parameters are known from the method's name to the end of its `return`
 abbrev pub whole_method : Method → Span
