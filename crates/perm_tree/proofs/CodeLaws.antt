@@ -101,10 +101,10 @@ stmt_code-is k at s rest placed here =
     ap
     (λ (f : Code → Code). f rest)
     (entries_of-at
-      (λ codes (t : Stmt). kind_code k codes t t.kind)
-      k.tables.program.stmts
-      at
-      s
-      (λ c. c)
-      here
-      (λ before after count i r. kind-reads k before after (length k.tables.program.exprs) at s s.kind r (placed.stmts at s here) count i))
+    (λ codes (t : Stmt). kind_code k codes t t.kind)
+    k.tables.program.stmts
+    at
+    s
+    (λ c. c)
+    here
+    (λ before after count i r. kind-reads k before after (length k.tables.program.exprs) at s s.kind r (placed.stmts at s here) count i))

@@ -7,3 +7,4 @@ pub mod Programs
 pub mod ParPrograms
 pub mod ProgramTexts
 pub mod NameRows
+pub mod CodeRows
