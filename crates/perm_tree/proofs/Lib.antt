@@ -2,6 +2,7 @@ pub mod Lows
 pub mod Pushes
 pub mod Entries
 pub mod CodeLaws
+pub mod TableLaws
 pub mod Builder
 pub mod Programs
 pub mod ParPrograms
