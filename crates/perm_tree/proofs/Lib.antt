@@ -3,6 +3,7 @@ pub mod Pushes
 pub mod Entries
 pub mod CodeLaws
 pub mod TableLaws
+pub mod ResolvedLaws
 pub mod Builder
 pub mod Programs
 pub mod ParPrograms

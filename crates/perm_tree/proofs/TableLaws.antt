@@ -25,11 +25,10 @@ AllMethods-append p (t ∷ ts) us f g = (f.0, AllMethods-append p ts us f.1 g)
 class_tables-methods : (p : Listing) (stmts : List Stmt) (inner : List (List VarInfo)) (class m : ℕ) (ds : List Method)
     → ((j : ℕ) (d : Method) → slice_get ds j ≡ Some d → method_in (slice_get p.classes class) (m + j) ≡ Some d) → AllMethods p (class_tables stmts inner class m ds)
 class_tables-methods p stmts inner class m [] there = tt
-class_tables-methods p stmts inner class m (d ∷ ds) there =
-    (
-      (d, subst (λ n. method_in (slice_get p.classes class) n ≡ Some d) (add-zero m) (there zero d refl)),
-      class_tables-methods p stmts inner class (suc m) ds (λ j e q. subst (λ n. method_in (slice_get p.classes class) n ≡ Some e) (omega arith) (there (suc j) e q)),
-    )
+class_tables-methods p stmts inner class m (d ∷ ds) there = (
+  (d, subst (λ n. method_in (slice_get p.classes class) n ≡ Some d) (add-zero m) (there zero d refl)),
+  class_tables-methods p stmts inner class (suc m) ds (λ j e q. subst (λ n. method_in (slice_get p.classes class) n ≡ Some e) (omega arith) (there (suc j) e q)),
+)
 
 tables_from-methods : (p : Listing) (stmts : List Stmt) (inner : List (List VarInfo)) (k : ℕ) (cs : List ClassDecl)
     → ((j : ℕ) (c : ClassDecl) → slice_get cs j ≡ Some c → slice_get p.classes (k + j) ≡ Some c) → AllMethods p (tables_from stmts inner k cs)
