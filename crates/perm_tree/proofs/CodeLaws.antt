@@ -11,12 +11,12 @@ use Rattle.perm_tree.specs.declared.ast.Stmt.{Stmt}
 use Rattle.perm_tree.specs.declared.ast.StmtKind.{StmtKind}
 use Rattle.perm_tree.specs.declared.ast.StmtKind.TheVariants.{Declare as DeclareStmt, Assign as AssignStmt, SetField, SetItem, Call as CallStmt, Print as PrintStmt, If as IfStmt, While as WhileStmt, Par as ParStmt}
 use Rattle.perm_tree.specs.declared.unit.VarInfo.{VarInfo}
-use Rattle.perm_tree.specs.Code.{Term, NullLit, Unary, Binary, Code, End, Give, If, While, Par, Recover}
+use Rattle.perm_tree.specs.Code.{NullLit, Unary, Binary, Code, End, Give, If, While, Par, Recover}
 use Rattle.perm_tree.specs.CodeOf.{Setting, setting, term_of, terms_of, term_at, var_at, own_vars, tied_before, sequence, assignment, kind_code, codes_of, stmt_code, block_code}
 use Rattle.perm_tree.specs.Places.{AllBelow, ExprBelow, RhsPlaced, ElseBelow, KindPlaced, IsPlaced}
 use Rattle.perm_tree.specs.Scopes.{else_stmts}
 use Rattle.perm_tree.specs.UnitTables.{Tables}
-use Rattle.perm_tree.proofs.Entries.{ReadsBefore, entries_of-at, entries_of-front}
+use Rattle.perm_tree.proofs.Entries.{ReadsBefore, entries_of-at}
 
 -- ---------- expressions ----------
 -- operands that stand before an expression make its term

@@ -1,17 +1,16 @@
 -- Worked examples of code, and of the variables that blocks mention and write, by computation.
-use Rattle.std.specs.Prelude.{◌≡◌, ℕ, zero, suc, false, ◌+◌, pos, List, [], ◌∷◌, ◌++◌, Option, Some, None, map, filter, refl}
+use Rattle.std.specs.Prelude.{◌≡◌, ℕ, zero, suc, false, pos, List, [], ◌∷◌, ◌++◌, Some, map, filter, refl}
 use Rattle.perm_tree.specs.declared.ast.Span.{Span}
 use Rattle.perm_tree.specs.declared.ast.BinaryOp.TheVariants.{Plus}
-use Rattle.perm_tree.specs.declared.ast.Perm.TheVariants.{Isolated, Immutable, Readable, Writable}
+use Rattle.perm_tree.specs.declared.ast.Perm.TheVariants.{Isolated, Immutable, Writable}
 use Rattle.perm_tree.specs.declared.ast.Shape.TheVariants.{Class, Array}
-use Rattle.perm_tree.specs.declared.ast.Ty.{Ty}
 use Rattle.perm_tree.specs.declared.ast.Ty.TheVariants.{Long, Ref}
-use Rattle.perm_tree.specs.Code.{Term, LongLit, Local, Binary, Expression, Consumed, Shares, Raises, Lends, Instruction, Assign, LoadField, LoadLength, NewObject, TakeField, StoreField, Invoke, Print, Code, End, Give, Return, Do, If, While, Par, Recover, Routine}
+use Rattle.perm_tree.specs.Code.{LongLit, Local, Binary, Expression, Consumed, Shares, Raises, Lends, Instruction, Assign, LoadField, NewObject, TakeField, StoreField, Invoke, Print, Code, End, Give, Return, Do, If, While, Par, Recover}
 use Rattle.perm_tree.specs.CodeOf.{code_of}
 use Rattle.perm_tree.specs.Mentions.{block_mentions, block_writes}
 use Rattle.perm_tree.specs.Vars.{Vars}
 use Rattle.perm_tree.proofs.Builder.{Source}
-use Rattle.perm_tree.proofs.ParPrograms.{p3, p4, p11}
+use Rattle.perm_tree.proofs.ParPrograms.{p4, p11}
 use Rattle.perm_tree.proofs.Programs.{unit, p2, p6, p7}
 
 abbrev at : ℕ → ℕ → Span

@@ -4,6 +4,7 @@ pub mod Entries
 pub mod CodeLaws
 pub mod TableLaws
 pub mod ResolvedLaws
+pub mod AcceptedNames
 pub mod Builder
 pub mod Programs
 pub mod ParPrograms

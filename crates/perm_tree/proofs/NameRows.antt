@@ -1,13 +1,12 @@
 -- Worked refusals of names, by computation.
-use Rattle.std.specs.Prelude.{◌≡◌, ℕ, zero, suc, true, List, [], ◌∷◌, None, Option, Some, codes, refl}
+use Rattle.std.specs.Prelude.{◌≡◌, ℕ, zero, suc, true, List, [], ◌∷◌, None, Some, codes, refl}
 use Rattle.perm_tree.specs.declared.ast.Span.{Span}
 use Rattle.perm_tree.specs.declared.ast.Ident.{Ident}
 use Rattle.perm_tree.specs.declared.ast.Perm.TheVariants.{Isolated, Immutable, Readable, Writable}
-use Rattle.perm_tree.specs.declared.errors.Limit.TheVariants.{Fields, Variables}
+use Rattle.perm_tree.specs.declared.errors.Limit.TheVariants.{Variables}
 use Rattle.perm_tree.specs.declared.errors.TableError.TheVariants.{DuplicateName, UnknownClass, NoMain, BadMain, TooMany}
 use Rattle.perm_tree.specs.Names.{names_refusal}
-use Rattle.perm_tree.specs.Places.{Listing}
-use Rattle.perm_tree.proofs.Builder.{Writes, Member, Line, Source, listing_of, text_of, flat_listing_of, flat_text_of, place_in, class, field, field_as, «method», param, long, ref, array, num, truth, value, word, digits_within, declare, declare_as, init, expr, new, while, if_else}
+use Rattle.perm_tree.proofs.Builder.{Writes, Source, listing_of, text_of, flat_listing_of, flat_text_of, place_in, class, field, «method», param, long, ref, array, num, truth, value, word, digits_within, declare, declare_as, init, expr, new, if_else}
 use Rattle.perm_tree.proofs.ParPrograms.{p3, p4, p4_read, p4_both, p4_shared, p9, p10, p11, p11_shared}
 use Rattle.perm_tree.proofs.Programs.{run_method, main_only, p1, p1_gone, p2, p5, p5_new, p5_test, p6, p6_immutable, p7, p8, p12, p13, p14}
 
@@ -34,12 +33,18 @@ two_classes-text = refl
 pub two_classes-refused : names_refusal (flat_listing_of two_classes) ≡ Some (DuplicateName (span 18 19))
 two_classes-refused = refl
 
+pub two_classes-place : place_in (flat_text_of two_classes) 18 ≡ (1, 19)
+two_classes-place = refl
+
 abbrev two_members : Source
 two_members = class "A" («method» long "x" [] Readable [] (value (num 0)) ∷ field long "x" ∷ []) ∷ []
 
 -- a field and a method of one name: refused at the later one, 1:48
 pub two_members-refused : names_refusal (flat_listing_of two_members) ≡ Some (DuplicateName (span 47 48))
 two_members-refused = refl
+
+pub two_members-place : place_in (flat_text_of two_members) 47 ≡ (1, 48)
+two_members-place = refl
 
 abbrev two_blocks : Source
 two_blocks =
@@ -48,6 +53,9 @@ two_blocks =
 -- two variables of one name, in blocks that don't enclose each other: refused at 6:12
 pub two_blocks-refused : names_refusal (listing_of two_blocks) ≡ Some (DuplicateName (span 117 118))
 two_blocks-refused = refl
+
+pub two_blocks-place : place_in (text_of two_blocks) 117 ≡ (6, 12)
+two_blocks-place = refl
 
 abbrev as_parameter : Source
 as_parameter = main_only (run_method (declare long "input" ∷ []) (num 0) ∷ [])
@@ -66,6 +74,9 @@ unknown_field-text = refl
 -- in the type of a field: refused at 1:23
 pub unknown_field-refused : names_refusal (flat_listing_of unknown_field) ≡ Some (UnknownClass (span 22 23))
 unknown_field-refused = refl
+
+pub unknown_field-place : place_in (flat_text_of unknown_field) 22 ≡ (1, 23)
+unknown_field-place = refl
 
 abbrev unknown_new : Source
 unknown_new = main_only (run_method (init (ref Isolated "Main") "b" (new "B") ∷ []) (num 0) ∷ [])
@@ -91,6 +102,9 @@ run_without-text = refl
 -- without a parameter: refused at 1:19
 pub run_without-refused : names_refusal (flat_listing_of run_without) ≡ Some (BadMain (span 18 21))
 run_without-refused = refl
+
+pub run_without-place : place_in (flat_text_of run_without) 18 ≡ (1, 19)
+run_without-place = refl
 
 abbrev run_readable : Source
 run_readable = main_only («method» long "Run" (param (array Immutable) "x" ∷ []) Readable [] (value (num 0)) ∷ [])

@@ -4,7 +4,7 @@ use Rattle.perm_tree.specs.declared.ast.Perm.{Perm}
 use Rattle.perm_tree.specs.declared.ast.Perm.TheVariants.{Isolated, Immutable, Readable, Writable}
 use Rattle.perm_tree.specs.declared.ast.BinaryOp.TheVariants.{Div, Rem, Plus, Minus, Less, Equal, Differs}
 use Rattle.perm_tree.specs.UnitTables.{Tables}
-use Rattle.perm_tree.proofs.Builder.{Writes, Member, Line, Source, listing_of, unit_of, class, field, «method», param, long, bool, ref, array, num, truth, null, var, binary, value, consume, call, init, assign, expr, consumed, get, take, get_item, new, result_of, init_recover, set_field, print, if_else, while, beside}
+use Rattle.perm_tree.proofs.Builder.{Writes, Member, Line, Source, listing_of, unit_of, class, field, «method», param, long, bool, ref, array, num, truth, null, var, binary, value, consume, call, init, assign, expr, consumed, get, get_item, new, result_of, init_recover, set_field, print, if_else, while, beside}
 
 -- ---------- common parts ----------
 -- `long Run(immutable long[] input) writable`

@@ -1,10 +1,9 @@
 -- Resolving changes no name and no place: the unit of a placed program is resolved.
-use Rattle.std.proofs.Common.{◌≡◌, ℕ, zero, suc, Bool, true, false, List, [], ◌∷◌, ◌++◌, length, Option, Some, None, refl, sym, ap, subst, arith, ◌∙◌}
+use Rattle.std.proofs.Common.{◌≡◌, ℕ, zero, suc, Bool, true, false, List, [], ◌∷◌, ◌++◌, length, Option, Some, None, refl, sym, ap, subst, ◌∙◌}
 use Rattle.std.specs.Prelude.{◌&&◌, map, flat_map, slice_get, get_or, find, cond, option_map}
 use Rattle.std.proofs.lemmas.List.{length-map, map-append}
 use Rattle.std.proofs.lemmas.List.Folds.{flat_map-map}
 use Rattle.std.proofs.lemmas.Option.{slice_get-map}
-use Rattle.perm_tree.specs.declared.ast.Block.{Block}
 use Rattle.perm_tree.specs.declared.ast.ClassDecl.{ClassDecl}
 use Rattle.perm_tree.specs.declared.ast.FieldDecl.{FieldDecl}
 use Rattle.perm_tree.specs.declared.ast.Ident.{Ident}
@@ -18,13 +17,11 @@ use Rattle.perm_tree.specs.declared.ast.Rhs.TheVariants.{Value, Field, TakeField
 use Rattle.perm_tree.specs.declared.ast.Stmt.{Stmt}
 use Rattle.perm_tree.specs.declared.ast.StmtKind.{StmtKind}
 use Rattle.perm_tree.specs.declared.ast.StmtKind.TheVariants.{Declare, Assign, SetField, SetItem, Call as CallStmt, Print, If, While, Par}
-use Rattle.perm_tree.specs.declared.unit.MethodTable.{MethodTable}
 use Rattle.perm_tree.specs.declared.unit.VarInfo.{VarInfo}
 use Rattle.perm_tree.specs.Entries.{entries_from}
 use Rattle.perm_tree.specs.Lookup.{is_class_word}
-use Rattle.perm_tree.specs.Names.{Complaint, class_names, field_names, method_names, var_names, made_class, class_mentions, doubles, unknowns, passing, in_class, in_method, complaints, first_of_all, run_in, main_run, is_long, is_writable, is_input, takes_input, is_good_run, run_refusal, refusal_from, names_refusal}
+use Rattle.perm_tree.specs.Names.{Complaint, class_names, var_names, made_class, class_mentions, doubles, unknowns, passing, in_class, in_method, complaints, first_of_all, run_in, main_run, is_long, is_writable, is_input, takes_input, is_good_run, run_refusal, refusal_from, names_refusal}
 use Rattle.perm_tree.specs.declared.errors.Limit.TheVariants.{Classes, Fields, Methods, Variables}
-use Rattle.perm_tree.specs.declared.errors.TableError.{TableError}
 use Rattle.perm_tree.specs.Places.{Listing, KindPlaced, MethodPlaced, ClassPlaced, IsPlaced}
 use Rattle.perm_tree.specs.Resolves.{resolved_ty, resolved_decl, resolved_method, resolved_class, resolved_kind, resolved_stmt, resolved, Resolves, IsResolved}
 use Rattle.perm_tree.specs.Scopes.{declared_by, declared_if, declared_at, known_until, block_end, block_vars, braced_vars, else_stmts, rhs_vars, inner_vars, all_inner, param_var, method_vars, class_tables, tables_from, tables_of}

@@ -1,13 +1,12 @@
 -- The tables of a program name its methods, and there is one routine for each.
-use Rattle.std.proofs.Common.{◌≡◌, ℕ, zero, suc, ◌+◌, List, [], ◌∷◌, ◌++◌, length, Option, Some, None, refl, sym, ap, subst, arith, ◌∙◌, add-zero}
+use Rattle.std.proofs.Common.{◌≡◌, ℕ, zero, suc, ◌+◌, List, [], ◌∷◌, ◌++◌, length, Some, refl, sym, ap, subst, arith, add-zero}
 use Rattle.std.specs.Prelude.{slice_get}
 use Rattle.perm_tree.specs.declared.ast.ClassDecl.{ClassDecl}
 use Rattle.perm_tree.specs.declared.ast.Method.{Method}
 use Rattle.perm_tree.specs.declared.ast.Stmt.{Stmt}
 use Rattle.perm_tree.specs.declared.unit.MethodTable.{MethodTable}
 use Rattle.perm_tree.specs.declared.unit.VarInfo.{VarInfo}
-use Rattle.perm_tree.specs.Code.{Routine}
-use Rattle.perm_tree.specs.CodeOf.{routine, routine_if, routines_of}
+use Rattle.perm_tree.specs.CodeOf.{routine, routines_of}
 use Rattle.perm_tree.specs.Lookup.{method_in, method_of}
 use Rattle.perm_tree.specs.Places.{Listing}
 use Rattle.perm_tree.specs.Scopes.{all_inner, class_tables, tables_from, tables_of}

@@ -26,7 +26,7 @@ pub data Tie : Type 0 where
   Raises : Tie
   Lends : Tie
 
--- a simple statement; x takes a value, y holds the object. Fields are numbered in the class of y's declared type, routines and classes in the unit, and one that isn't there has a number past the last
+-- a simple statement: x takes the value, y holds the object. Fields have numbers in the class of y's declared type, routines and classes in the unit; what isn't there has a number past the last
 pub data Instruction : Type 0 where
   Declare : (x : ℕ) → Instruction
   Assign : (x : ℕ) (a : Argument) → Instruction
@@ -41,7 +41,7 @@ pub data Instruction : Type 0 where
   Invoke : (into : Option ℕ) (tie : Tie) (consumed : Bool) (y routine : ℕ) (args : List Argument) → Instruction
   Print : (e : Term) → Instruction
 
--- a block's code ends in End, that of a recover block in Give, and that of a method in Return. own are the variables that a block itself declares, hides those that a recover block hides, and at is what a refusal or a trap of the statement or head names
+-- a block's code ends in End, that of a recover block in Give, that of a method in Return; own are the variables that a block itself declares, hides those that a recover block hides, at is the span of the statement or head
 pub data Code : Type 0 where
   End : Code
   Give : (at : Span) (w x : ℕ) → Code

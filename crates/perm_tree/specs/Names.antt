@@ -9,13 +9,11 @@ use Rattle.perm_tree.specs.declared.ast.Perm.TheVariants.{Immutable, Writable}
 use Rattle.perm_tree.specs.declared.ast.Shape.TheVariants.{Array}
 use Rattle.perm_tree.specs.declared.ast.Ty.{Ty}
 use Rattle.perm_tree.specs.declared.ast.Ty.TheVariants.{Long, Ref}
-use Rattle.perm_tree.specs.declared.ast.Stmt.{Stmt}
 use Rattle.perm_tree.specs.declared.ast.StmtKind.{StmtKind}
 use Rattle.perm_tree.specs.declared.ast.StmtKind.TheVariants.{Assign}
 use Rattle.perm_tree.specs.declared.ast.Rhs.TheVariants.{New}
 use Rattle.perm_tree.specs.declared.ast.Method.{Method}
 use Rattle.perm_tree.specs.declared.ast.ClassDecl.{ClassDecl}
-use Rattle.perm_tree.specs.declared.unit.VarInfo.{VarInfo}
 use Rattle.perm_tree.specs.declared.unit.MethodTable.{MethodTable}
 use Rattle.perm_tree.specs.declared.errors.Limit.{Limit}
 use Rattle.perm_tree.specs.declared.errors.Limit.TheVariants.{Classes, Fields, Methods, Variables}
@@ -59,13 +57,13 @@ pub record Complaint : Type 0 where
 abbrev pub later : Ident → Ident → Ident
 later i j = if nat_lt j.span.start i.span.start then i else j
 
-abbrev pub is_double : Ident → Complaint
-is_double i = record { at = i.span; rank = 1; what = DuplicateName i.span }
+abbrev pub double_at : Ident → Complaint
+double_at i = record { at = i.span; rank = 1; what = DuplicateName i.span }
 
 -- each two equal names of a group are refused at the later one
 abbrev pub doubles : List Ident → List Complaint
 doubles [] = []
-doubles (i ∷ is) = map (λ j. is_double (later i j)) (filter (λ j. nat_eq i.name j.name) is) ++ doubles is
+doubles (i ∷ is) = map (λ j. double_at (later i j)) (filter (λ j. nat_eq i.name j.name) is) ++ doubles is
 
 abbrev pub is_class_name : List Ident → Ident → Bool
 is_class_name classes i = list_any (λ c. nat_eq c.name i.name) classes
