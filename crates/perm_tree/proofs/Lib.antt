@@ -5,6 +5,7 @@ pub mod CodeLaws
 pub mod TableLaws
 pub mod ResolvedLaws
 pub mod AcceptedNames
+pub mod MentionLaws
 pub mod Builder
 pub mod Programs
 pub mod ParPrograms
