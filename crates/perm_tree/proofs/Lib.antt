@@ -6,6 +6,7 @@ pub mod TableLaws
 pub mod ResolvedLaws
 pub mod AcceptedNames
 pub mod MentionLaws
+pub mod RunLaw
 pub mod Builder
 pub mod Programs
 pub mod ParPrograms
