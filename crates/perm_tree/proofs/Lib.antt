@@ -7,6 +7,7 @@ pub mod ResolvedLaws
 pub mod AcceptedNames
 pub mod MentionLaws
 pub mod RunLaw
+pub mod RoutineLaws
 pub mod Builder
 pub mod Programs
 pub mod ParPrograms

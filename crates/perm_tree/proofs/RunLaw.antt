@@ -1,7 +1,6 @@
 -- The routine with which the run of a resolved unit starts.
 use Rattle.std.proofs.Common.{◌≡◌, ◌≢◌, ℕ, zero, suc, ◌+◌, ◌<◌, Bool, true, false, List, [], ◌∷◌, ◌++◌, Option, Some, None, refl, sym, ap, subst, arith, ◌∙◌, eq-eqb, ne_eqb, add-zero}
-use Rattle.std.specs.Prelude.{◌&&◌, slice_get, map, cond, nat_eq, find}
-use Rattle.std.specs.List.{position_or_len}
+use Rattle.std.specs.Prelude.{◌&&◌, slice_get, map, cond, find}
 use Rattle.std.proofs.lemmas.List.Folds.{find_at}
 use Rattle.perm_tree.specs.declared.ast.ClassDecl.{ClassDecl}
 use Rattle.perm_tree.specs.declared.ast.FieldDecl.{FieldDecl}
@@ -14,7 +13,7 @@ use Rattle.perm_tree.specs.declared.ast.Ty.TheVariants.{Long, Bool as Boolean, R
 use Rattle.perm_tree.specs.declared.ast.Stmt.{Stmt}
 use Rattle.perm_tree.specs.declared.unit.MethodTable.{MethodTable}
 use Rattle.perm_tree.specs.declared.unit.VarInfo.{VarInfo}
-use Rattle.perm_tree.specs.CodeOf.{routine, routines_of, code_of}
+use Rattle.perm_tree.specs.CodeOf.{routine, code_of}
 use Rattle.perm_tree.specs.Lookup.{method_in, method_of, is_method_if, is_method_of, is_class_word, main_place, run_place}
 use Rattle.perm_tree.specs.Names.{run_in, main_run, is_long, is_writable, is_input, takes_input, is_good_run}
 use Rattle.perm_tree.specs.Places.{Listing}
@@ -22,7 +21,7 @@ use Rattle.perm_tree.specs.Resolves.{IsResolved}
 use Rattle.perm_tree.specs.Scopes.{method_vars, all_inner, class_tables, tables_from, tables_of}
 use Rattle.perm_tree.specs.Spelling.{main_word, run_word, is_word}
 use Rattle.perm_tree.specs.UnitTables.{Tables}
-use Rattle.perm_tree.proofs.AcceptedNames.{IsAccepted, names_refusal-accepted}
+use Rattle.perm_tree.proofs.AcceptedNames.{names_refusal-accepted}
 use Rattle.perm_tree.proofs.TableLaws.{AllMethods, tables_of-methods, routines_of-at}
 
 -- ---------- what is found in two lists, one after the other ----------
