@@ -47,21 +47,27 @@ pub record Setting : Type 0 where
   pub vars : List VarInfo
   pub terms : List Term
 
+-- the setting of a method with these variables
 abbrev pub setting : Tables → List VarInfo → Setting
 setting u vars = record { tables = u; vars = vars; terms = terms_of vars u.program.exprs }
 
+-- the term of the expression at a place
 abbrev pub term_at : Setting → ℕ → Term
 term_at k e = get_or k.terms e NullLit
 
+-- the number of the variable of a name where it stands
 abbrev pub var_at : Setting → Ident → ℕ
 var_at k i = var_place k.vars i
 
+-- its declared type
 abbrev pub ty_at : Setting → Ident → Option Ty
 ty_at k i = var_ty k.vars (var_at k i)
 
+-- the number of a field of it
 abbrev pub field_at : Setting → Ident → Ident → ℕ
 field_at k y f = field_place k.tables.program (ty_at k y) f.name
 
+-- an argument with its names resolved
 abbrev pub argument : Setting → Arg → Argument
 argument k (Plain e) = Expression (term_at k e)
 argument k (Consume y) = Consumed (var_at k y)
@@ -70,6 +76,7 @@ argument k (Consume y) = Consumed (var_at k y)
 abbrev pub call_tie : Setting → Ident → Bool → List Argument → Tie
 call_tie k y consumed args = tie_of (ty_at k y) consumed (list_all (is_harmless (var_ty k.vars)) args)
 
+-- a call, whose result goes into a variable or nowhere
 abbrev pub call : Setting → Option ℕ → Call → Instruction
 call k into c =
     let args = map (argument k) c.args in
@@ -94,6 +101,7 @@ is_tied (Ref Readable k) = true
 is_tied (Ref Writable k) = true
 is_tied _ = false
 
+-- one more number in front, where a test holds
 abbrev pub listed_if : Bool → ℕ → List ℕ → List ℕ
 listed_if true x xs = x ∷ xs
 listed_if false x xs = xs
@@ -147,6 +155,7 @@ abbrev pub block_code : Setting → List ℕ → Code → Code
 block_code k is = sequence (codes_of k) is
 
 -- ---------- methods ----------
+-- the routine of a method with its table
 abbrev pub routine : Tables → MethodTable → Method → Routine
 routine u t d =
     let k = setting u t.vars in
@@ -159,6 +168,7 @@ routine u t d =
       code = block_code k d.body.stmts (Return d.span (argument k d.back));
     }
 
+-- the same where there is such a method
 abbrev pub routine_if : Tables → MethodTable → Option Method → List Routine
 routine_if u t None = []
 routine_if u t (Some d) = routine u t d ∷ []

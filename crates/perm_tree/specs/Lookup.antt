@@ -18,9 +18,11 @@ use Rattle.perm_tree.specs.UnitTables.{Tables}
 abbrev pub is_known_as : Ident → VarInfo → Bool
 is_known_as i v = nat_eq v.name i.name && (nat_le v.scope.start i.span.start && nat_lt i.span.start v.scope.end)
 
+-- the number of the variable of a name where it stands
 abbrev pub var_place : List VarInfo → Ident → ℕ
 var_place vars i = position_or_len (is_known_as i) vars
 
+-- the type of a variable that is there
 abbrev pub ty_if : Option VarInfo → Option Ty
 ty_if None = None
 ty_if (Some v) = Some v.ty
@@ -34,6 +36,7 @@ var_ty vars x = ty_if (slice_get vars x)
 abbrev pub class_place : Listing → ℕ → ℕ
 class_place p name = position_or_len (λ c. nat_eq c.name.name name) p.classes
 
+-- the field of this name in a class
 abbrev pub field_in : Option ClassDecl → ℕ → ℕ
 field_in None name = 0
 field_in (Some c) name = position_or_len (λ f. nat_eq f.name.name name) c.fields
@@ -43,11 +46,13 @@ abbrev pub field_place : Listing → Option Ty → ℕ → ℕ
 field_place p (Some (Ref q (Class k))) name = field_in (slice_get p.classes k) name
 field_place p _ name = 0
 
+-- the type is that of an array
 abbrev pub is_array : Option Ty → Bool
 is_array (Some (Ref q Array)) = true
 is_array _ = false
 
 -- ---------- methods ----------
+-- the method with number m of a class
 abbrev pub method_in : Option ClassDecl → ℕ → Option Method
 method_in None m = None
 method_in (Some c) m = slice_get c.methods m
@@ -56,6 +61,7 @@ method_in (Some c) m = slice_get c.methods m
 abbrev pub method_of : Listing → MethodTable → Option Method
 method_of p t = method_in (slice_get p.classes t.class) t.«method»
 
+-- the name of a method passes a test
 abbrev pub is_method_if : (ℕ → Bool) → Option Method → Bool
 is_method_if test None = false
 is_method_if test (Some d) = test d.name.name

@@ -12,10 +12,12 @@ any_in_term test (Unary op a) = any_in_term test a
 any_in_term test (Binary op a b) = any_in_term test a || any_in_term test b
 any_in_term test _ = false
 
+-- the same of an argument
 abbrev pub any_in_argument : Vars → Argument → Bool
 any_in_argument test (Expression e) = any_in_term test e
 any_in_argument test (Consumed y) = test y
 
+-- the same of a variable that may be there
 abbrev pub any_in_option : Vars → Option ℕ → Bool
 any_in_option test None = false
 any_in_option test (Some x) = test x
@@ -40,9 +42,11 @@ any_in_instruction test (Print e) = any_in_term test e
 abbrev pub term_mentions : Term → Vars
 term_mentions e x = any_in_term (nat_eq x) e
 
+-- the variables that stand in an argument
 abbrev pub argument_mentions : Argument → Vars
 argument_mentions a x = any_in_argument (nat_eq x) a
 
+-- the variables that stand in a simple statement, an assigned one included
 abbrev pub mentions : Instruction → Vars
 mentions i x = any_in_instruction (nat_eq x) i
 
@@ -51,14 +55,17 @@ abbrev pub argument_consumes : Argument → Vars
 argument_consumes (Expression e) = none
 argument_consumes (Consumed y) = just y
 
+-- the variables that some arguments consume
 abbrev pub arguments_consume : List Argument → Vars
 arguments_consume [] = none
 arguments_consume (a ∷ rest) = plus (argument_consumes a) (arguments_consume rest)
 
+-- the set of one variable, where a test holds
 abbrev pub just_if : Bool → ℕ → Vars
 just_if true y = just y
 just_if false y = none
 
+-- the set of a variable that may be there
 abbrev pub just_option : Option ℕ → Vars
 just_option None = none
 just_option (Some x) = just x

@@ -25,12 +25,15 @@ use Rattle.perm_tree.specs.Scopes.{tables_of}
 use Rattle.perm_tree.specs.Spelling.{main_word, run_word, is_word}
 
 -- ---------- groups of names ----------
+-- the names of the classes
 abbrev pub class_names : Listing → List Ident
 class_names p = map (λ c. c.name) p.classes
 
+-- the names of the fields of a class
 abbrev pub field_names : ClassDecl → List Ident
 field_names c = map (λ f. f.name) c.fields
 
+-- the names of its methods
 abbrev pub method_names : ClassDecl → List Ident
 method_names c = map (λ d. d.name) c.methods
 
@@ -38,6 +41,7 @@ method_names c = map (λ d. d.name) c.methods
 abbrev pub var_names : MethodTable → List Ident
 var_names t = map (λ v. record { name = v.name; span = v.declared }) t.vars
 
+-- the name after `new`, if the statement is such an assignment
 abbrev pub made_class : StmtKind → List Ident
 made_class (Assign t x (New c)) = c ∷ []
 made_class _ = []
@@ -57,6 +61,7 @@ pub record Complaint : Type 0 where
 abbrev pub later : Ident → Ident → Ident
 later i j = if nat_lt j.span.start i.span.start then i else j
 
+-- the refusal of a second name
 abbrev pub double_at : Ident → Complaint
 double_at i = record { at = i.span; rank = 1; what = DuplicateName i.span }
 
@@ -65,6 +70,7 @@ abbrev pub doubles : List Ident → List Complaint
 doubles [] = []
 doubles (i ∷ is) = map (λ j. double_at (later i j)) (filter (λ j. nat_eq i.name j.name) is) ++ doubles is
 
+-- some class has this name
 abbrev pub is_class_name : List Ident → Ident → Bool
 is_class_name classes i = list_any (λ c. nat_eq c.name i.name) classes
 
@@ -79,6 +85,7 @@ most Fields = 256
 most Methods = 256
 most Variables = 256
 
+-- the refusal of a declaration that passes a limit, if there is one
 abbrev pub passes : Limit → Option Ident → List Complaint
 passes limit None = []
 passes limit (Some i) = record { at = i.span; rank = 5; what = TooMany i.span limit } ∷ []
@@ -87,9 +94,11 @@ passes limit (Some i) = record { at = i.span; rank = 5; what = TooMany i.span li
 abbrev pub passing : Limit → List Ident → List Complaint
 passing limit is = passes limit (slice_get is (most limit))
 
+-- what is refused of the members of a class
 abbrev pub in_class : ClassDecl → List Complaint
 in_class c = doubles (field_names c ++ method_names c) ++ (passing Fields (field_names c) ++ passing Methods (method_names c))
 
+-- what is refused of the variables of a method
 abbrev pub in_method : MethodTable → List Complaint
 in_method t = doubles (var_names t) ++ passing Variables (var_names t)
 
@@ -106,6 +115,7 @@ complaints p =
 abbrev pub is_before : Complaint → Complaint → Bool
 is_before a b = nat_lt a.at.start b.at.start || (nat_eq a.at.start b.at.start && nat_le a.rank b.rank)
 
+-- the one that comes first
 abbrev pub earlier : Complaint → Option Complaint → Complaint
 earlier a None = a
 earlier a (Some b) = if is_before a b then a else b
@@ -116,6 +126,7 @@ first_of_all [] = None
 first_of_all (c ∷ cs) = Some (earlier c (first_of_all cs))
 
 -- ---------- Main and Run ----------
+-- the method `Run` of a class
 abbrev pub run_in : Listing → Option ClassDecl → Option Method
 run_in p None = None
 run_in p (Some c) = find (λ d. is_word p.names run_word d.name.name) c.methods
@@ -124,18 +135,22 @@ run_in p (Some c) = find (λ d. is_word p.names run_word d.name.name) c.methods
 abbrev pub main_run : Listing → Option Method
 main_run p = run_in p (find (is_class_word p main_word) p.classes)
 
+-- the type is `long`
 abbrev pub is_long : Ty → Bool
 is_long Long = true
 is_long _ = false
 
+-- the permission is `writable`
 abbrev pub is_writable : Perm → Bool
 is_writable Writable = true
 is_writable _ = false
 
+-- the type is `immutable long[]`
 abbrev pub is_input : Ty → Bool
 is_input (Ref Immutable Array) = true
 is_input _ = false
 
+-- there is one parameter, and it is of that type
 abbrev pub takes_input : List FieldDecl → Bool
 takes_input (f ∷ []) = is_input f.ty
 takes_input _ = false
@@ -144,11 +159,13 @@ takes_input _ = false
 abbrev pub is_good_run : Method → Bool
 is_good_run d = is_long d.result && (takes_input d.params && is_writable d.receiver)
 
+-- what is refused of `Main` and its `Run`
 abbrev pub run_refusal : Option Method → Option TableError
 run_refusal None = Some NoMain
 run_refusal (Some d) = if is_good_run d then None else Some (BadMain d.name.span)
 
 -- ---------- the first refusal ----------
+-- the refusal at a name, else another
 abbrev pub refusal_from : Option Complaint → Option TableError → Option TableError
 refusal_from None otherwise = otherwise
 refusal_from (Some c) otherwise = Some c.what

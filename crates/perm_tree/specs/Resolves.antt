@@ -17,28 +17,35 @@ use Rattle.perm_tree.specs.Scopes.{tables_of}
 use Rattle.perm_tree.specs.UnitTables.{Tables}
 
 -- ---------- class names become numbers ----------
+-- the name of a class becomes its number
 abbrev pub resolved_shape : Listing → Shape → Shape
 resolved_shape p (Class name) = Class (class_place p name)
 resolved_shape p Array = Array
 
+-- so in a type
 abbrev pub resolved_ty : Listing → Ty → Ty
 resolved_ty p (Ref q shape) = Ref q (resolved_shape p shape)
 resolved_ty p t = t
 
+-- so in a field or a parameter
 abbrev pub resolved_decl : Listing → FieldDecl → FieldDecl
 resolved_decl p d = record d { ty = resolved_ty p d.ty }
 
+-- so in the types of a method
 abbrev pub resolved_method : Listing → Method → Method
 resolved_method p d = record d { result = resolved_ty p d.result; params = map (resolved_decl p) d.params }
 
+-- so in the members of a class
 abbrev pub resolved_class : Listing → ClassDecl → ClassDecl
 resolved_class p c = record c { fields = map (resolved_decl p) c.fields; methods = map (resolved_method p) c.methods }
 
+-- so in the types of declarations
 abbrev pub resolved_kind : Listing → StmtKind → StmtKind
 resolved_kind p (Declare t x) = Declare (resolved_ty p t) x
 resolved_kind p (Assign t x r) = Assign (option_map (resolved_ty p) t) x r
 resolved_kind p k = k
 
+-- so in a statement
 abbrev pub resolved_stmt : Listing → Stmt → Stmt
 resolved_stmt p s = record s { kind = resolved_kind p s.kind }
 
@@ -59,6 +66,7 @@ pub record IsResolved (u : Tables) : Type 0 where
   pub accepted : names_refusal u.program ≡ None
   pub tables : u.tables ≡ tables_of u.program
 
+-- the bytes of the name of a class
 abbrev pub class_word : Listing → ClassDecl → List ℕ
 class_word p c = get_or p.names c.name.name []
 

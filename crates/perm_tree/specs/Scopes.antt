@@ -23,6 +23,7 @@ declared_by (Declare t x) = record { ty = t; name = x } ∷ []
 declared_by (Assign (Some t) x r) = record { ty = t; name = x } ∷ []
 declared_by _ = []
 
+-- the same of a statement that is there
 abbrev pub declared_if : Option Stmt → List FieldDecl
 declared_if None = []
 declared_if (Some s) = declared_by s.kind
@@ -35,6 +36,7 @@ declared_at stmts at = declared_if (slice_get stmts at)
 abbrev pub known_until : ℕ → FieldDecl → VarInfo
 known_until end d = record { name = d.name.name; ty = d.ty; declared = d.name.span; scope = record { start = d.name.span.start; end = end } }
 
+-- where a statement ends, if it is there
 abbrev pub end_if : ℕ → Option Stmt → ℕ
 end_if end None = end
 end_if end (Some s) = s.span.end
@@ -83,6 +85,7 @@ whole_method d = record { start = d.name.span.start; end = d.span.end }
 abbrev pub this_var : ℕ → Method → VarInfo
 this_var class d = record { name = 0; ty = Ref d.receiver (Class class); declared = record { start = d.name.span.start; end = d.name.span.start }; scope = whole_method d }
 
+-- a parameter as a variable
 abbrev pub param_var : Method → FieldDecl → VarInfo
 param_var d p = record { name = p.name.name; ty = p.ty; declared = p.name.span; scope = whole_method d }
 

@@ -13,6 +13,7 @@ run_word = 82 ∷ 117 ∷ 110 ∷ []
 abbrev pub length_word : List ℕ
 length_word = 76 ∷ 101 ∷ 110 ∷ 103 ∷ 116 ∷ 104 ∷ []
 
+-- two words are equal
 abbrev pub same_bytes : List ℕ → List ℕ → Bool
 same_bytes [] [] = true
 same_bytes (x ∷ xs) (y ∷ ys) = nat_eq x y && same_bytes xs ys

@@ -25,6 +25,7 @@ is_harmless ty (Expression (Local x)) = is_harmless_ty (ty x)
 is_harmless ty (Expression e) = true
 is_harmless ty (Consumed y) = is_harmless_consumed (ty y)
 
+-- a result is raised where all arguments are harmless
 abbrev pub raises_if : Bool → Tie
 raises_if true = Raises
 raises_if false = Shares

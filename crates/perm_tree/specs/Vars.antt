@@ -2,6 +2,7 @@
 use Rattle.std.specs.Prelude.{◌≡◌, ℕ, zero, suc, Bool, true, false, not, ◌&&◌, ◌||◌, nat_eq, List}
 use Rattle.std.specs.List.{list_any}
 
+-- a set of variables
 abbrev pub Vars : Type 0
 Vars = ℕ → Bool
 
@@ -23,15 +24,19 @@ below (suc n) (suc x) = below n x
 abbrev pub those : List ℕ → Vars
 those xs x = list_any (nat_eq x) xs
 
+-- the members of either set
 abbrev pub plus : Vars → Vars → Vars
 plus G H x = G x || H x
 
+-- the members of the first set that are not in the second
 abbrev pub minus : Vars → Vars → Vars
 minus G H x = G x && not (H x)
 
+-- the common members of two sets
 abbrev pub meet : Vars → Vars → Vars
 meet G H x = G x && H x
 
+-- each member of the first set is in the second
 abbrev pub IsWithin : Vars → Vars → Type 0
 IsWithin G H = (x : ℕ) → G x ≡ true → H x ≡ true
 
