@@ -1,5 +1,6 @@
 pub mod Lows
 pub mod Pushes
+pub mod Spelling
 pub mod Entries
 pub mod CodeLaws
 pub mod TableLaws
