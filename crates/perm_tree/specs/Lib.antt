@@ -1,4 +1,15 @@
-pub mod Places
+pub mod Code
+pub mod CodeOf
+pub mod Entries
+pub mod Lookup
 pub mod Lows
-pub mod UnitTables
+pub mod Mentions
+pub mod Names
+pub mod Places
+pub mod Resolves
+pub mod Scopes
+pub mod Spelling
 pub mod Straight
+pub mod Ties
+pub mod UnitTables
+pub mod Vars
