@@ -1,0 +1,64 @@
+-- The two blocks of a par: what they may share, and which side stands alone.
+use Rattle.std.specs.Prelude.{ℕ, Bool, true, false, not, ◌&&◌, ◌||◌, List, length}
+use Rattle.perm_tree.specs.Code.{Code}
+use Rattle.perm_tree.specs.CodeOf.{is_tied}
+use Rattle.perm_tree.specs.Mentions.{block_mentions, block_writes, known}
+use Rattle.perm_tree.specs.Vars.{Vars, plus, meet, some_below}
+use Rattle.perm_rules.specs.declared.ParMode.{ParMode}
+use Rattle.perm_rules.specs.declared.ParMode.TheVariants.{Symmetric, LeftAlone, RightAlone}
+use Rattle.perm_rules.specs.Parts.{Context, Part, ParHead, type_of, if_known, if_reference, has_isolated, is_writable}
+
+-- the known outer variables that stand anywhere in a block, which declares own itself; an assigned variable included
+abbrev pub uses : Context → List ℕ → Code → Vars
+uses c own a = known (length c.vars) (block_mentions own a)
+
+-- those that it assigns or consumes anywhere
+abbrev pub sets : Context → List ℕ → Code → Vars
+sets c own a = known (length c.vars) (block_writes own a)
+
+-- the head of the par of two blocks
+abbrev pub par_head : Context → List ℕ → Code → List ℕ → Code → Part
+par_head c own1 a own2 b = ParHead (uses c own1 a) (uses c own2 b) (sets c own1 a) (sets c own2 b)
+
+-- ---------- variables by their permission ----------
+abbrev pub isolated_vars : Context → Vars
+isolated_vars c x = has_isolated (type_of c x)
+
+abbrev pub writable_vars : Context → Vars
+writable_vars c x = if_reference (type_of c x) is_writable
+
+-- the readable and writable ones
+abbrev pub tied_vars : Context → Vars
+tied_vars c x = if_known (type_of c x) is_tied
+
+-- some variable of the method is in a set
+abbrev pub some_var : Context → Vars → Bool
+some_var c G = some_below (length c.vars) G
+
+-- ---------- the two tests ----------
+-- one block writes what stands in the other, or an isolated variable stands in both
+abbrev pub par_shared : Context → Part → Bool
+par_shared c (ParHead u1 u2 a1 a2) = some_var c (meet a1 u2) || (some_var c (meet a2 u1) || some_var c (meet (isolated_vars c) (meet u1 u2)))
+par_shared c _ = false
+
+abbrev pub has_writable : Context → Vars → Bool
+has_writable c u = some_var c (meet (writable_vars c) u)
+
+-- a block whose outer variables are all isolated, immutable, `long` or `bool` can stand alone
+abbrev pub can_stand_alone : Context → Vars → Bool
+can_stand_alone c u = not (some_var c (meet (tied_vars c) u))
+
+-- a writable variable stands in a block, and neither block can stand alone
+abbrev pub par_permission : Context → Part → Bool
+par_permission c (ParHead u1 u2 a1 a2) = (has_writable c u1 || has_writable c u2) && not (can_stand_alone c u1 || can_stand_alone c u2)
+par_permission c _ = false
+
+-- ---------- the mode ----------
+abbrev pub mode_by : Bool → Bool → ParMode
+mode_by false left_can = Symmetric
+mode_by true true = LeftAlone
+mode_by true false = RightAlone
+
+-- neither stands alone where no writable variable stands in the blocks; else the left one does if it can
+abbrev pub mode_of : Context → Vars → Vars → ParMode
+mode_of c u1 u2 = mode_by (has_writable c u1 || has_writable c u2) (can_stand_alone c u1)
