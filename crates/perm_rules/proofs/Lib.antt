@@ -1,2 +1,3 @@
 pub mod Verdicts
 mod Derivations
+mod Loops
