@@ -1,3 +1,5 @@
 pub mod Verdicts
 mod Derivations
 mod Loops
+mod PlaceExamples
+mod KindExamples

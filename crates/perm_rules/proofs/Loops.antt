@@ -1,10 +1,10 @@
 -- Derivations of units with loops, and the greatest sets from which the loops go round.
-use Rattle.std.proofs.Common.{◌≡◌, ℕ, zero, suc, Bool, true, false, List, [], ◌∷◌, refl, sym, ◌∙◌, ap, arith, nat_eq, ◌||◌, ◌&&◌, not}
+use Rattle.std.proofs.Common.{◌≡◌, ℕ, zero, suc, Bool, true, false, [], ◌∷◌, refl, sym, ◌∙◌, ap, arith}
 use Rattle.std.specs.Prelude.{pos}
 use Rattle.std.proofs.lemmas.Bool.{ne_eqb}
 use Rattle.perm_tree.specs.declared.ast.BinaryOp.TheVariants.{Plus as Add, Less}
 use Rattle.perm_tree.specs.declared.ast.Perm.TheVariants.{Immutable}
-use Rattle.perm_tree.specs.Code.{LongLit, Local, Binary, Expression, Consumed, Assign, NewObject, UnitCode}
+use Rattle.perm_tree.specs.Code.{LongLit, Local, Binary, Expression, Consumed, Assign, NewObject}
 use Rattle.perm_tree.specs.CodeOf.{code_of}
 use Rattle.perm_tree.specs.Vars.{Vars, just, below, those, minus, IsWithin}
 use Rattle.perm_tree.proofs.Builder.{Source, ref, num, var, binary, init, assign, expr, consumed, new, beside}
@@ -57,11 +57,26 @@ four-again (suc (suc (suc (suc x)))) h = cc
 
 -- the greatest set is all that is live where the loop begins
 renewing-derived : IsAccepted (code_of (unit p5_new))
-renewing-derived =
-    ((_, (refl, (refl, (below 4,
-        record { holds = record { part = four-within; tested = refl; ends = renewed (below 4); body = (refl, (refl, (refl, refl))); again = four-again };
-                 greatest = λ L r x h. within-four x (r.part x h) },
-        (refl, refl))))), tt)
+renewing-derived = (
+  (
+    _,
+    (
+      refl,
+      (
+        refl,
+        (
+          below 4,
+          record {
+            holds = record { part = four-within; tested = refl; ends = renewed (below 4); body = (refl, (refl, (refl, refl))); again = four-again };
+            greatest = λ L r x h. within-four x (r.part x h);
+          },
+          (refl, refl),
+        ),
+      ),
+    ),
+  ),
+  tt,
+)
 
 -- ---------- a loop that loses a variable ----------
 -- `b = new Box(); immutable Box f = consume b; i = i + 1;`
@@ -109,8 +124,23 @@ without_b-greatest L ends part e again (suc (suc (suc (suc x)))) h = cc (past_fo
 
 -- the greatest set is what is live where the loop begins, without b
 losing-derived : IsAccepted (code_of (unit losing))
-losing-derived =
-    ((_, (refl, (refl, (without_b,
-        record { holds = record { part = without_b-within; tested = refl; ends = lost without_b; body = (refl, (refl, (refl, refl))); again = without_b-again };
-                 greatest = λ L r. without_b-greatest L r.ends r.part r.body.1.1.1 r.again },
-        (refl, refl))))), tt)
+losing-derived = (
+  (
+    _,
+    (
+      refl,
+      (
+        refl,
+        (
+          without_b,
+          record {
+            holds = record { part = without_b-within; tested = refl; ends = lost without_b; body = (refl, (refl, (refl, refl))); again = without_b-again };
+            greatest = λ L r. without_b-greatest L r.ends r.part r.body.1.1.1 r.again;
+          },
+          (refl, refl),
+        ),
+      ),
+    ),
+  ),
+  tt,
+)

@@ -1,7 +1,7 @@
 -- Programs that are accepted, and programs that are refused, by computation.
 use Rattle.std.specs.Prelude.{◌≡◌, ℕ, Option, Some, None, refl}
 use Rattle.perm_tree.specs.declared.errors.TypeKind.{TypeKind}
-use Rattle.perm_tree.specs.declared.errors.TypeKind.TheVariants.{UnknownName, WrongKind, Gone, NeedsConsume, NotAllowedThrough, PermissionTooWeak, Hidden, BadGive, ParShared, ParPermission}
+use Rattle.perm_tree.specs.declared.errors.TypeKind.TheVariants.{Gone, NeedsConsume, Hidden, ParShared, ParPermission}
 use Rattle.perm_tree.specs.declared.errors.TypeError.{TypeError}
 use Rattle.perm_tree.specs.CodeOf.{code_of}
 use Rattle.perm_tree.proofs.Builder.{Source, place_in}
@@ -113,4 +113,3 @@ p6-refused = refl
 -- an argument consumes the receiver, which is looked at after it
 p7-refused : verdict p7 ≡ Refused Gone 9 5
 p7-refused = refl
-

@@ -1,5 +1,5 @@
 -- The rules for a method, a statement or a block that is named by its place in a unit.
-use Rattle.std.specs.Prelude.{◌≡◌, ℕ, Bool, true, ◌&&◌, nat_le, List, [], flat_map, get_or, Option, Some, None, slice_get, cond, Result, Ok, Err}
+use Rattle.std.specs.Prelude.{ℕ, Bool, true, ◌&&◌, nat_le, List, [], flat_map, get_or, Option, Some, None, slice_get, cond, Result, Ok, Err}
 use Rattle.perm_tree.specs.declared.ast.Span.{Span}
 use Rattle.perm_tree.specs.declared.ast.Stmt.{Stmt}
 use Rattle.perm_tree.specs.declared.ast.StmtKind.{StmtKind}
@@ -16,7 +16,7 @@ use Rattle.perm_tree.specs.declared.unit.VarInfo.{VarInfo}
 use Rattle.perm_tree.specs.Code.{Code, End, Routine}
 use Rattle.perm_tree.specs.CodeOf.{Setting, setting, code_of, stmt_code, block_code, own_vars, tied_before}
 use Rattle.perm_tree.specs.UnitTables.{Tables}
-use Rattle.perm_tree.specs.Vars.{Vars, below}
+use Rattle.perm_tree.specs.Vars.{Vars}
 use Rattle.perm_rules.specs.declared.ParMode.{ParMode}
 use Rattle.perm_rules.specs.Parts.{Context}
 use Rattle.perm_rules.specs.Pars.{uses, sets, par_head, mode_of}

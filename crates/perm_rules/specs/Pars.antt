@@ -3,7 +3,7 @@ use Rattle.std.specs.Prelude.{ℕ, Bool, true, false, not, ◌&&◌, ◌||◌, L
 use Rattle.perm_tree.specs.Code.{Code}
 use Rattle.perm_tree.specs.CodeOf.{is_tied}
 use Rattle.perm_tree.specs.Mentions.{block_mentions, block_writes, known}
-use Rattle.perm_tree.specs.Vars.{Vars, plus, meet, some_below}
+use Rattle.perm_tree.specs.Vars.{Vars, meet, some_below}
 use Rattle.perm_rules.specs.declared.ParMode.{ParMode}
 use Rattle.perm_rules.specs.declared.ParMode.TheVariants.{Symmetric, LeftAlone, RightAlone}
 use Rattle.perm_rules.specs.Parts.{Context, Part, ParHead, type_of, if_known, if_reference, has_isolated, is_writable}

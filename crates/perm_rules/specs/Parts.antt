@@ -1,7 +1,7 @@
 -- The parts of a method, what they are checked by, and the types of variables and fields.
-use Rattle.std.specs.Prelude.{ℕ, Bool, true, false, not, ◌||◌, List, Option, Some, None, slice_get}
+use Rattle.std.specs.Prelude.{ℕ, Bool, true, false, not, List, Option, Some, None, slice_get}
 use Rattle.perm_tree.specs.declared.ast.Perm.{Perm}
-use Rattle.perm_tree.specs.declared.ast.Perm.TheVariants.{Isolated, Immutable, Readable, Writable}
+use Rattle.perm_tree.specs.declared.ast.Perm.TheVariants.{Isolated, Writable}
 use Rattle.perm_tree.specs.declared.ast.Shape.TheVariants.{Class, Array}
 use Rattle.perm_tree.specs.declared.ast.Ty.{Ty}
 use Rattle.perm_tree.specs.declared.ast.Ty.TheVariants.{Ref}

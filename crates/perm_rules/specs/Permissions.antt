@@ -1,8 +1,8 @@
 -- What permissions ask for: a consume, another receiver, or a stronger permission; and what is hidden within recover blocks.
-use Rattle.std.specs.Prelude.{ℕ, Bool, true, false, not, ◌&&◌, ◌||◌, List, [], ◌∷◌, Option, Some, None, option_map, slice_get, is_none}
+use Rattle.std.specs.Prelude.{ℕ, Bool, true, false, not, ◌&&◌, ◌||◌, List, ◌∷◌, Option, Some, None, option_map, slice_get, is_none}
 use Rattle.std.specs.List.{list_any, list_all}
 use Rattle.perm_tree.specs.declared.ast.Perm.{Perm}
-use Rattle.perm_tree.specs.declared.ast.Perm.TheVariants.{Isolated, Immutable, Readable, Writable}
+use Rattle.perm_tree.specs.declared.ast.Perm.TheVariants.{Isolated, Immutable, Writable}
 use Rattle.perm_tree.specs.declared.ast.Ty.{Ty}
 use Rattle.perm_tree.specs.declared.ast.Ty.TheVariants.{Ref}
 use Rattle.perm_tree.specs.declared.ast.BinaryOp.{BinaryOp}

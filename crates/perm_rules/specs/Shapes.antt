@@ -7,7 +7,7 @@ use Rattle.perm_tree.specs.declared.ast.Ty.{Ty}
 use Rattle.perm_tree.specs.declared.ast.Ty.TheVariants.{Long, Ref}
 use Rattle.perm_tree.specs.Code.{Argument, Instruction, Declare, Assign, LoadField, LoadLength, LoadItem, TakeField, NewObject, NewArray, StoreField, StoreItem, Invoke, Print, Routine}
 use Rattle.perm_rules.specs.Parts.{Context, Part, Simple, Condition, ParHead, RecoverHead, Given, Returned, any_in_part, type_of, field_type, if_known, if_both_known, has_isolated, is_object, is_long_array, isnt_reference}
-use Rattle.perm_rules.specs.Sorts.{Sort, argument_sort, argument_wrong, isnt_value_of, differ, isnt_long, isnt_bool}
+use Rattle.perm_rules.specs.Sorts.{argument_sort, argument_wrong, isnt_value_of, differ, isnt_long, isnt_bool}
 
 -- ---------- names that aren't known ----------
 -- the class of the variable y has no field with this number
