@@ -3,3 +3,5 @@ mod Derivations
 mod Loops
 mod PlaceExamples
 mod KindExamples
+pub mod Truth
+pub mod SetLaws

@@ -1,9 +1,9 @@
 -- The two blocks of a par: what they may share, and which side stands alone.
 use Rattle.std.specs.Prelude.{ℕ, Bool, true, false, not, ◌&&◌, ◌||◌, List, length}
-use Rattle.perm_tree.specs.Code.{Code}
+use Rattle.perm_tree.specs.Code.{Code, End, Give, Return, Do, If, While, Par, Recover}
 use Rattle.perm_tree.specs.CodeOf.{is_tied}
-use Rattle.perm_tree.specs.Mentions.{block_mentions, block_writes, known}
-use Rattle.perm_tree.specs.Vars.{Vars, meet, some_below}
+use Rattle.perm_tree.specs.Mentions.{argument_consumes, consumes, assigns, block_mentions, block_writes, known}
+use Rattle.perm_tree.specs.Vars.{Vars, none, just, those, plus, meet, some_below}
 use Rattle.perm_rules.specs.declared.ParMode.{ParMode}
 use Rattle.perm_rules.specs.declared.ParMode.TheVariants.{Symmetric, LeftAlone, RightAlone}
 use Rattle.perm_rules.specs.Parts.{Context, Part, ParHead, type_of, if_known, if_reference, has_isolated, is_writable}
@@ -16,9 +16,24 @@ uses c own a = known (length c.vars) (block_mentions own a)
 abbrev pub sets : Context → List ℕ → Code → Vars
 sets c own a = known (length c.vars) (block_writes own a)
 
+-- the variables that a code assigns or consumes anywhere, and those that blocks within it declare
+abbrev pub touched : Code → Vars
+touched End = none
+touched (Give at w x) = just w
+touched (Return at a) = argument_consumes a
+touched (Do at i rest) = plus (plus (consumes i) (assigns i)) (touched rest)
+touched (If at e own1 a own2 b rest) = plus (plus (touched a) (those own1)) (plus (plus (touched b) (those own2)) (touched rest))
+touched (While at e own body rest) = plus (plus (touched body) (those own)) (touched rest)
+touched (Par at own1 a own2 b rest) = plus (plus (touched a) (those own1)) (plus (plus (touched b) (those own2)) (touched rest))
+touched (Recover at x own hides body rest) = plus (just x) (plus (plus (touched body) (those own)) (touched rest))
+
+-- the known variables that a block assigns, consumes or declares anywhere
+abbrev pub touches : Context → List ℕ → Code → Vars
+touches c own a = known (length c.vars) (plus (touched a) (those own))
+
 -- the head of the par of two blocks
 abbrev pub par_head : Context → List ℕ → Code → List ℕ → Code → Part
-par_head c own1 a own2 b = ParHead (uses c own1 a) (uses c own2 b) (sets c own1 a) (sets c own2 b)
+par_head c own1 a own2 b = ParHead (uses c own1 a) (uses c own2 b) (touches c own1 a) (touches c own2 b)
 
 -- ---------- variables by their permission ----------
 abbrev pub isolated_vars : Context → Vars
@@ -36,7 +51,7 @@ abbrev pub some_var : Context → Vars → Bool
 some_var c G = some_below (length c.vars) G
 
 -- ---------- the two tests ----------
--- one block writes what stands in the other, or an isolated variable stands in both
+-- one block assigns, consumes or declares what stands in the other, or an isolated variable stands in both. What the one declares stands in the other in no text, since it is known in its own block alone; so of a text this asks nothing more, and with it the laws hold of every code
 abbrev pub par_shared : Context → Part → Bool
 par_shared c (ParHead u1 u2 a1 a2) = some_var c (meet a1 u2) || (some_var c (meet a2 u1) || some_var c (meet (isolated_vars c) (meet u1 u2)))
 par_shared c _ = false

@@ -17,7 +17,7 @@ pub record Context : Type 0 where
   pub result : Ty
   pub hidden : List ℕ
 
--- what is checked at one place: a simple statement; the condition of an `if` or a `while`; the head of a par, by the outer variables u1 and u2 that its blocks mention and the a1 and a2 that they write; the head of a recover block whose value x takes; the `give` of w to x; a `return`
+-- what is checked at one place: a simple statement; the condition of an `if` or a `while`; the head of a par, by the outer variables u1 and u2 that its blocks mention and the variables a1 and a2 that they write or declare; the head of a recover block whose value x takes; the `give` of w to x; a `return`
 pub data Part : Type 0 where
   Simple : (i : Instruction) → Part
   Condition : (e : Term) → Part
