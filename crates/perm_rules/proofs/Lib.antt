@@ -5,3 +5,4 @@ mod PlaceExamples
 mod KindExamples
 pub mod Truth
 pub mod SetLaws
+pub mod PartLaws

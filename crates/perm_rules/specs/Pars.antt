@@ -19,7 +19,7 @@ sets c own a = known (length c.vars) (block_writes own a)
 -- the variables that a code assigns or consumes anywhere, and those that blocks within it declare
 abbrev pub touched : Code → Vars
 touched End = none
-touched (Give at w x) = just w
+touched (Give at w x) = plus (just w) (just x)
 touched (Return at a) = argument_consumes a
 touched (Do at i rest) = plus (plus (consumes i) (assigns i)) (touched rest)
 touched (If at e own1 a own2 b rest) = plus (plus (touched a) (those own1)) (plus (plus (touched b) (those own2)) (touched rest))

@@ -1,5 +1,5 @@
 -- The parts of a method, what they are checked by, and the types of variables and fields.
-use Rattle.std.specs.Prelude.{ℕ, Bool, true, false, not, List, Option, Some, None, slice_get}
+use Rattle.std.specs.Prelude.{ℕ, Bool, true, false, not, ◌||◌, List, Option, Some, None, slice_get}
 use Rattle.perm_tree.specs.declared.ast.Perm.{Perm}
 use Rattle.perm_tree.specs.declared.ast.Perm.TheVariants.{Isolated, Writable}
 use Rattle.perm_tree.specs.declared.ast.Shape.TheVariants.{Class, Array}
@@ -26,13 +26,13 @@ pub data Part : Type 0 where
   Given : (w x : ℕ) → Part
   Returned : (a : Argument) → Part
 
--- some variable that stands in the part passes a test; those of a par's blocks stand in parts of their own, and x of a `give` stands in the head of its recover block
+-- some variable that stands in the part passes a test, one that takes a value included; those of a par's blocks stand in parts of their own
 abbrev pub any_in_part : Vars → Part → Bool
 any_in_part test (Simple i) = any_in_instruction test i
 any_in_part test (Condition e) = any_in_term test e
 any_in_part test (ParHead u1 u2 a1 a2) = false
 any_in_part test (RecoverHead x) = test x
-any_in_part test (Given w x) = test w
+any_in_part test (Given w x) = test w || test x
 any_in_part test (Returned a) = any_in_argument test a
 
 -- ---------- types ----------

@@ -156,6 +156,7 @@ permission_too_weak c (Returned a) = argument_weak c a (Some c.result)
 permission_too_weak c _ = false
 
 -- ---------- hidden ----------
--- a hidden variable is mentioned or assigned
+-- a hidden variable is mentioned or assigned; the one that takes what is given stands outside of its recover block
 abbrev pub is_hidden : Context → Part → Bool
+is_hidden c (Given w x) = those c.hidden w
 is_hidden c p = any_in_part (those c.hidden) p
