@@ -6,3 +6,4 @@ mod KindExamples
 pub mod Truth
 pub mod SetLaws
 pub mod PartLaws
+pub mod Fine

@@ -1,6 +1,6 @@
 -- The two blocks of a par: what they may share, and which side stands alone.
 use Rattle.std.specs.Prelude.{ℕ, Bool, true, false, not, ◌&&◌, ◌||◌, List, length}
-use Rattle.perm_tree.specs.Code.{Code, End, Give, Return, Do, If, While, Par, Recover}
+use Rattle.perm_tree.specs.Code.{Instruction, Declare, Code, End, Give, Return, Do, If, While, Par, Recover}
 use Rattle.perm_tree.specs.CodeOf.{is_tied}
 use Rattle.perm_tree.specs.Mentions.{argument_consumes, consumes, assigns, block_mentions, block_writes, known}
 use Rattle.perm_tree.specs.Vars.{Vars, none, just, those, plus, meet, some_below}
@@ -16,12 +16,17 @@ uses c own a = known (length c.vars) (block_mentions own a)
 abbrev pub sets : Context → List ℕ → Code → Vars
 sets c own a = known (length c.vars) (block_writes own a)
 
--- the variables that a code assigns or consumes anywhere, and those that blocks within it declare
+-- the variables that a simple statement assigns, consumes or declares
+abbrev pub touched_by : Instruction → Vars
+touched_by (Declare x) = just x
+touched_by i = plus (consumes i) (assigns i)
+
+-- the variables that a code assigns or consumes anywhere, and those that it or a block within it declares
 abbrev pub touched : Code → Vars
 touched End = none
 touched (Give at w x) = plus (just w) (just x)
 touched (Return at a) = argument_consumes a
-touched (Do at i rest) = plus (plus (consumes i) (assigns i)) (touched rest)
+touched (Do at i rest) = plus (touched_by i) (touched rest)
 touched (If at e own1 a own2 b rest) = plus (plus (touched a) (those own1)) (plus (plus (touched b) (those own2)) (touched rest))
 touched (While at e own body rest) = plus (plus (touched body) (those own)) (touched rest)
 touched (Par at own1 a own2 b rest) = plus (plus (touched a) (those own1)) (plus (plus (touched b) (those own2)) (touched rest))
