@@ -7,3 +7,4 @@ pub mod Truth
 pub mod SetLaws
 pub mod PartLaws
 pub mod Fine
+pub mod Agree
