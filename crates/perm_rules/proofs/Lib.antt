@@ -8,3 +8,4 @@ pub mod SetLaws
 pub mod PartLaws
 pub mod Fine
 pub mod Agree
+pub mod RefusalLaws

@@ -10,3 +10,4 @@ pub mod Goes
 pub mod FirstRefused
 pub mod InBody
 pub mod AtPlace
+pub mod Laws
