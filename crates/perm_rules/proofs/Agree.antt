@@ -4,7 +4,6 @@ use Rattle.perm_tree.specs.Code.{Term, Code, End, Give, Return, Do, If, While, P
 use Rattle.perm_tree.specs.Mentions.{argument_consumes}
 use Rattle.perm_tree.specs.Vars.{Vars, just, those, minus, meet, IsWithin, IsGreatest}
 use Rattle.perm_rules.specs.Parts.{Context, Condition}
-use Rattle.perm_rules.specs.Pars.{par_head}
 use Rattle.perm_rules.specs.Refusals.{IsAllowed}
 use Rattle.perm_rules.specs.Effects.{Effect, changed, then, instruction_effect, effect, block_effect, either, both, repeated}
 use Rattle.perm_rules.specs.Goes.{hiding, joined, GoesRound, Goes}
@@ -115,58 +114,78 @@ agree c (If at e own1 a own2 b rest) G =
     let two = agree c b G in
     let later = agree c rest (changed (either (block_effect own1 a) (block_effect own2 b)) G) in
     record {
-      to = λ h.
-        (h.0, changed (effect a) G, changed (effect b) G, one.to h.1, two.to h.2,
-          rest_to c rest (either (block_effect own1 a) (block_effect own2 b)) G _
-          (if_ends own1 a own2 b G _ _ refl refl (block_clear c own1 a G h.1) (block_clear c own2 b G h.2)) later h.3);
+      to = λ h. (
+        h.0,
+        changed (effect a) G,
+        changed (effect b) G,
+        one.to h.1,
+        two.to h.2,
+        rest_to c rest (either (block_effect own1 a) (block_effect own2 b)) G _
+            (if_ends own1 a own2 b G _ _ refl refl (block_clear c own1 a G h.1) (block_clear c own2 b G h.2)) later h.3,
+      );
       fine = λ H g.
-        let f1 = one.fine g.1 g.3 in
-        let f2 = two.fine g.2 g.4 in
-        (g.0, f1, f2,
-          rest_fine c rest (either (block_effect own1 a) (block_effect own2 b)) G _
-          (if_ends own1 a own2 b G g.1 g.2 (one.same g.1 g.3) (two.same g.2 g.4) (block_clear c own1 a G f1) (block_clear c own2 b G f2)) later H g.5);
+          let f1 = one.fine g.1 g.3 in
+          let f2 = two.fine g.2 g.4 in (
+            g.0,
+            f1,
+            f2,
+            rest_fine c rest (either (block_effect own1 a) (block_effect own2 b)) G _
+                (if_ends own1 a own2 b G g.1 g.2 (one.same g.1 g.3) (two.same g.2 g.4) (block_clear c own1 a G f1) (block_clear c own2 b G f2)) later H g.5,
+          );
       same = λ H g.
-        let f1 = one.fine g.1 g.3 in
-        let f2 = two.fine g.2 g.4 in
-        rest_same c rest (either (block_effect own1 a) (block_effect own2 b)) G _
-        (if_ends own1 a own2 b G g.1 g.2 (one.same g.1 g.3) (two.same g.2 g.4) (block_clear c own1 a G f1) (block_clear c own2 b G f2)) later H g.5;
+          let f1 = one.fine g.1 g.3 in
+          let f2 = two.fine g.2 g.4 in
+          rest_same c rest (either (block_effect own1 a) (block_effect own2 b)) G _
+          (if_ends own1 a own2 b G g.1 g.2 (one.same g.1 g.3) (two.same g.2 g.4) (block_clear c own1 a G f1) (block_clear c own2 b G f2)) later H g.5;
     }
 agree c (While at e own body rest) G =
     let inner : (K : Vars) → Agrees c body K = λ K. agree c body K in
     let later = agree c rest (changed (repeated (block_effect own body)) G) in
     record {
-      to = λ h.
-        (minus G (block_effect own body).lost, loop_to c e own body G inner h.0 h.1,
-          rest_to c rest (repeated (block_effect own body)) G _ (lost_changed (block_effect own body).lost G) later h.2);
+      to = λ h. (
+        minus G (block_effect own body).lost,
+        loop_to c e own body G inner h.0 h.1,
+        rest_to c rest (repeated (block_effect own body)) G _ (lost_changed (block_effect own body).lost G) later h.2,
+      );
       fine = λ H g.
-        let f = loop_fine c e own body G inner g.0 g.1 in
-        (f.0, f.1,
-          rest_fine c rest (repeated (block_effect own body)) G g.0
-          (loop_same c e own body G inner g.0 g.1 ∙ lost_changed (block_effect own body).lost G) later H g.2);
+          let f = loop_fine c e own body G inner g.0 g.1 in (
+            f.0,
+            f.1,
+            rest_fine c rest (repeated (block_effect own body)) G g.0
+                (loop_same c e own body G inner g.0 g.1 ∙ lost_changed (block_effect own body).lost G) later H g.2,
+          );
       same = λ H g.
-        rest_same c rest (repeated (block_effect own body)) G g.0
-        (loop_same c e own body G inner g.0 g.1 ∙ lost_changed (block_effect own body).lost G) later H g.2;
+          rest_same c rest (repeated (block_effect own body)) G g.0
+          (loop_same c e own body G inner g.0 g.1 ∙ lost_changed (block_effect own body).lost G) later H g.2;
     }
 agree c (Par at own1 a own2 b rest) G =
     let one = agree c a G in
     let two = agree c b G in
     let later = agree c rest (changed (both (block_effect own1 a) (block_effect own2 b)) G) in
     record {
-      to = λ h.
-        (h.0, changed (effect a) G, changed (effect b) G, one.to h.1, two.to h.2,
-          rest_to c rest (both (block_effect own1 a) (block_effect own2 b)) G _
-          (par_ends own1 a own2 b G _ _ refl refl (block_clear c own1 a G h.1) (block_clear c own2 b G h.2) (sides_apart c own1 a own2 b G h.0 h.1 h.2)) later h.3);
+      to = λ h. (
+        h.0,
+        changed (effect a) G,
+        changed (effect b) G,
+        one.to h.1,
+        two.to h.2,
+        rest_to c rest (both (block_effect own1 a) (block_effect own2 b)) G _
+            (par_ends own1 a own2 b G _ _ refl refl (block_clear c own1 a G h.1) (block_clear c own2 b G h.2) (sides_apart c own1 a own2 b G h.0 h.1 h.2)) later h.3,
+      );
       fine = λ H g.
-        let f1 = one.fine g.1 g.3 in
-        let f2 = two.fine g.2 g.4 in
-        (g.0, f1, f2,
-          rest_fine c rest (both (block_effect own1 a) (block_effect own2 b)) G _
-          (par_ends own1 a own2 b G g.1 g.2 (one.same g.1 g.3) (two.same g.2 g.4) (block_clear c own1 a G f1) (block_clear c own2 b G f2) (sides_apart c own1 a own2 b G g.0 f1 f2)) later H g.5);
+          let f1 = one.fine g.1 g.3 in
+          let f2 = two.fine g.2 g.4 in (
+            g.0,
+            f1,
+            f2,
+            rest_fine c rest (both (block_effect own1 a) (block_effect own2 b)) G _
+                (par_ends own1 a own2 b G g.1 g.2 (one.same g.1 g.3) (two.same g.2 g.4) (block_clear c own1 a G f1) (block_clear c own2 b G f2) (sides_apart c own1 a own2 b G g.0 f1 f2)) later H g.5,
+          );
       same = λ H g.
-        let f1 = one.fine g.1 g.3 in
-        let f2 = two.fine g.2 g.4 in
-        rest_same c rest (both (block_effect own1 a) (block_effect own2 b)) G _
-        (par_ends own1 a own2 b G g.1 g.2 (one.same g.1 g.3) (two.same g.2 g.4) (block_clear c own1 a G f1) (block_clear c own2 b G f2) (sides_apart c own1 a own2 b G g.0 f1 f2)) later H g.5;
+          let f1 = one.fine g.1 g.3 in
+          let f2 = two.fine g.2 g.4 in
+          rest_same c rest (both (block_effect own1 a) (block_effect own2 b)) G _
+          (par_ends own1 a own2 b G g.1 g.2 (one.same g.1 g.3) (two.same g.2 g.4) (block_clear c own1 a G f1) (block_clear c own2 b G f2) (sides_apart c own1 a own2 b G g.0 f1 f2)) later H g.5;
     }
 agree c (Recover at x own hides body rest) G =
     let inner = agree (hiding hides c) body G in

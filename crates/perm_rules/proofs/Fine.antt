@@ -1,15 +1,15 @@
 -- Codes of which each part is allowed with its entry set: their variables are known, and a larger live set allows them too.
-use Rattle.std.proofs.Common.{◌≡◌, ℕ, zero, suc, ◌<◌, Bool, true, false, List, length, Option, Some, None, refl, sym, ap, subst, ◌∙◌, arith, inl, inr}
-use Rattle.std.specs.Prelude.{not, ◌&&◌, ◌||◌, ◌⊎◌, nat_eq}
+use Rattle.std.proofs.Common.{◌≡◌, ℕ, zero, suc, ◌<◌, true, false, List, length, Option, Some, None, refl, sym, ap, ◌∙◌, arith, inl, inr}
+use Rattle.std.specs.Prelude.{not, ◌&&◌, ◌⊎◌, nat_eq}
 use Rattle.std.proofs.lemmas.Bool.{or_cases, or_left, or_right, or_parts, and_parts, and_from, cases_lt, false_from_ne_true}
 use Rattle.perm_tree.specs.declared.errors.TypeKind.TheVariants.{ParShared}
 use Rattle.perm_tree.specs.Code.{Instruction, Declare, Assign, LoadField, LoadLength, LoadItem, TakeField, NewObject, NewArray, StoreField, StoreItem, Invoke, Print, Code, End, Give, Return, Do, If, While, Par, Recover}
-use Rattle.perm_tree.specs.Mentions.{argument_consumes, consumes, assigns, mentions, mentioned, just_option, any_in_option, term_mentions, argument_mentions}
+use Rattle.perm_tree.specs.Mentions.{argument_consumes, consumes, mentions, mentioned, just_option, any_in_option, term_mentions}
 use Rattle.perm_tree.specs.Vars.{Vars, none, just, below, those, plus, minus, meet, some_below, IsWithin}
-use Rattle.perm_rules.specs.Parts.{Context, Part, Simple, Condition, RecoverHead, Given, Returned}
+use Rattle.perm_rules.specs.Parts.{Context, Simple, Condition, RecoverHead, Given, Returned}
 use Rattle.perm_rules.specs.Pars.{touched, touched_by, touches, uses, par_head, some_var}
 use Rattle.perm_rules.specs.Refusals.{IsAllowed}
-use Rattle.perm_rules.specs.Effects.{Effect, changed, instruction_effect, effect, block_effect, closed, either, both, repeated}
+use Rattle.perm_rules.specs.Effects.{Effect, changed, instruction_effect, effect, block_effect, either, both, repeated}
 use Rattle.perm_rules.specs.Goes.{hiding}
 use Rattle.perm_rules.proofs.PartLaws.{applies-none, known_in, allowed_monotone, instruction_clear}
 use Rattle.perm_rules.proofs.SetLaws.{IsApart, IsClear, changed_within, minus_within, clear_then, clear_either, clear_both, clear_closed, clear_none, clear_empty, clear_minus}
@@ -105,8 +105,9 @@ instruction_lost (Print e) = minus_taken none none
 regroup : (A B C : Vars) → IsWithin (plus (plus A B) C) (plus A (plus B C))
 regroup A B C x h =
     elim (or_cases (plus A B x) (C x) h) [
-      inl ab ↦ elim (or_cases (A x) (B x) ab) [ inl a ↦ or_left (A x) (plus B C x) a | inr b ↦ or_right (A x) (plus B C x) (or_left (B x) (C x) b) ]
-    | inr c ↦ or_right (A x) (plus B C x) (or_right (B x) (C x) c) ]
+      | inl ab ↦ elim (or_cases (A x) (B x) ab) [ inl a ↦ or_left (A x) (plus B C x) a | inr b ↦ or_right (A x) (plus B C x) (or_left (B x) (C x) b) ]
+      | inr c ↦ or_right (A x) (plus B C x) (or_right (B x) (C x) c)
+    ]
 
 -- of two blocks, before a rest
 lost_branches : (own1 : List ℕ) (a : Code) (own2 : List ℕ) (b rest : Code)
@@ -115,9 +116,9 @@ lost_branches : (own1 : List ℕ) (a : Code) (own2 : List ℕ) (b rest : Code)
 lost_branches own1 a own2 b rest f g h x l =
     regroup (plus (touched a) (those own1)) (plus (touched b) (those own2)) (touched rest) x
     (lost_then (both (block_effect own1 a) (block_effect own2 b)) (effect rest) (plus (plus (touched a) (those own1)) (plus (touched b) (those own2))) (touched rest)
-      (plus_within _ _ (plus (touched a) (those own1)) (plus (touched b) (those own2))
-        (plus_within _ _ (touched a) (those own1) f (itself (those own1)))
-        (plus_within _ _ (touched b) (those own2) g (itself (those own2)))) h x l)
+    (plus_within _ _ (plus (touched a) (those own1)) (plus (touched b) (those own2))
+    (plus_within _ _ (touched a) (those own1) f (itself (those own1)))
+    (plus_within _ _ (touched b) (those own2) g (itself (those own2)))) h x l)
 
 -- what code loses it assigns, consumes or declares
 pub lost_in : (a : Code) → IsWithin (effect a).lost (touched a)
@@ -162,18 +163,18 @@ made_in (Do at i rest) = made_then (instruction_effect i) (effect rest) (mention
 made_in (If at e own1 a own2 b rest) =
     into_right _ (term_mentions e) (plus (minus (mentioned a) (those own1)) (plus (minus (mentioned b) (those own2)) (mentioned rest)))
     (λ x h. regroup (minus (mentioned a) (those own1)) (minus (mentioned b) (those own2)) (mentioned rest) x
-      (made_then (either (block_effect own1 a) (block_effect own2 b)) (effect rest) (plus (minus (mentioned a) (those own1)) (minus (mentioned b) (those own2))) (mentioned rest)
-        (λ y m. or_left (minus (mentioned a) (those own1) y) (minus (mentioned b) (those own2) y)
-          (closed_made own1 a (made_in a) y (and_parts ((block_effect own1 a).made y) ((block_effect own2 b).made y) m).0))
-        (made_in rest) x h))
+    (made_then (either (block_effect own1 a) (block_effect own2 b)) (effect rest) (plus (minus (mentioned a) (those own1)) (minus (mentioned b) (those own2))) (mentioned rest)
+    (λ y m. or_left (minus (mentioned a) (those own1) y) (minus (mentioned b) (those own2) y)
+    (closed_made own1 a (made_in a) y (and_parts ((block_effect own1 a).made y) ((block_effect own2 b).made y) m).0))
+    (made_in rest) x h))
 made_in (While at e own body rest) =
     into_right _ (term_mentions e) (plus (minus (mentioned body) (those own)) (mentioned rest))
     (made_then (repeated (block_effect own body)) (effect rest) (minus (mentioned body) (those own)) (mentioned rest) (nothing _) (made_in rest))
 made_in (Par at own1 a own2 b rest) =
     λ x h. regroup (minus (mentioned a) (those own1)) (minus (mentioned b) (those own2)) (mentioned rest) x
-      (made_then (both (block_effect own1 a) (block_effect own2 b)) (effect rest) (plus (minus (mentioned a) (those own1)) (minus (mentioned b) (those own2))) (mentioned rest)
-        (plus_within _ _ (minus (mentioned a) (those own1)) (minus (mentioned b) (those own2)) (closed_made own1 a (made_in a)) (closed_made own2 b (made_in b)))
-        (made_in rest) x h)
+    (made_then (both (block_effect own1 a) (block_effect own2 b)) (effect rest) (plus (minus (mentioned a) (those own1)) (minus (mentioned b) (those own2))) (mentioned rest)
+    (plus_within _ _ (minus (mentioned a) (those own1)) (minus (mentioned b) (those own2)) (closed_made own1 a (made_in a)) (closed_made own2 b (made_in b)))
+    (made_in rest) x h)
 made_in (Recover at x own hides body rest) =
     into_right _ (just x) (plus (minus (mentioned body) (those own)) (mentioned rest))
     (made_then (block_effect own body) (effect rest) (minus (mentioned body) (those own)) (mentioned rest) (closed_made own body (made_in body)) (made_in rest))
@@ -185,6 +186,7 @@ some_below-false (suc n) G h x lt = go (some_below-false n G (or_parts (G n) (so
   where
     near : (x n : ℕ) → x < suc n → (x < n) ⊎ (x ≡ n)
     near x n lt = elim (cases_lt x n) [ inl l ↦ inl l | inr g ↦ inr (omega arith) ]
+
     go : (x < n → G x ≡ false) → (x < n) ⊎ (x ≡ n) → G x ≡ false
     go f (inl l) = f l
     go f (inr e) = ap G e ∙ (or_parts (G n) (some_below n G) h).0
@@ -253,14 +255,20 @@ fine_monotone c (Give at v x) G H w h = allowed_monotone c (Given v x) G H w h
 fine_monotone c (Return at a) G H w h = allowed_monotone c (Returned a) G H w h
 fine_monotone c (Do at i rest) G H w h =
     (allowed_monotone c (Simple i) G H w h.0, fine_monotone c rest _ _ (changed_within (instruction_effect i) G H w) h.1)
-fine_monotone c (If at e own1 a own2 b rest) G H w h =
-    (allowed_monotone c (Condition e) G H w h.0, fine_monotone c a G H w h.1, fine_monotone c b G H w h.2,
-      fine_monotone c rest _ _ (changed_within (either (block_effect own1 a) (block_effect own2 b)) G H w) h.3)
+fine_monotone c (If at e own1 a own2 b rest) G H w h = (
+  allowed_monotone c (Condition e) G H w h.0,
+  fine_monotone c a G H w h.1,
+  fine_monotone c b G H w h.2,
+  fine_monotone c rest _ _ (changed_within (either (block_effect own1 a) (block_effect own2 b)) G H w) h.3,
+)
 fine_monotone c (While at e own body rest) G H w h =
     let less = minus_within G H (block_effect own body).lost w in
     (allowed_monotone c (Condition e) _ _ less h.0, fine_monotone c body _ _ less h.1, fine_monotone c rest _ _ (changed_within (repeated (block_effect own body)) G H w) h.2)
-fine_monotone c (Par at own1 a own2 b rest) G H w h =
-    (allowed_monotone c (par_head c own1 a own2 b) G H w h.0, fine_monotone c a G H w h.1, fine_monotone c b G H w h.2,
-      fine_monotone c rest _ _ (changed_within (both (block_effect own1 a) (block_effect own2 b)) G H w) h.3)
+fine_monotone c (Par at own1 a own2 b rest) G H w h = (
+  allowed_monotone c (par_head c own1 a own2 b) G H w h.0,
+  fine_monotone c a G H w h.1,
+  fine_monotone c b G H w h.2,
+  fine_monotone c rest _ _ (changed_within (both (block_effect own1 a) (block_effect own2 b)) G H w) h.3,
+)
 fine_monotone c (Recover at x own hides body rest) G H w h =
     (allowed_monotone c (RecoverHead x) G H w h.0, fine_monotone (hiding hides c) body G H w h.1, fine_monotone c rest _ _ (changed_within (block_effect own body) G H w) h.2)

@@ -1,6 +1,6 @@
 -- Laws of single parts: what is refused, how that depends on the live set, and effects.
-use Rattle.std.proofs.Common.{◌≡◌, ℕ, ◌<◌, ◌≤◌, Bool, true, false, cond, List, [], ◌∷◌, length, Option, Some, None, refl, sym, ap, subst, ◌∙◌, arith, inl, inr}
-use Rattle.std.specs.Prelude.{not, ◌&&◌, ◌||◌, find, nat_eq, is_none, slice_get, ◌⊎◌}
+use Rattle.std.proofs.Common.{◌≡◌, ℕ, ◌<◌, ◌≤◌, Bool, true, false, cond, List, [], ◌∷◌, length, Option, Some, None, refl, sym, ap, subst, ◌∙◌, inl, inr}
+use Rattle.std.specs.Prelude.{not, ◌&&◌, ◌||◌, find, nat_eq, is_none, slice_get}
 use Rattle.std.specs.List.{list_any}
 use Rattle.std.proofs.lemmas.Bool.{eqb-true, or_left, cases_lt}
 use Rattle.std.proofs.lemmas.Option.{slice_get_past}
@@ -12,8 +12,8 @@ use Rattle.perm_tree.specs.Mentions.{any_in_term, any_in_argument, any_in_option
 use Rattle.perm_tree.specs.Vars.{Vars, none, just, plus, minus, IsWithin}
 use Rattle.perm_rules.specs.Parts.{Context, Part, Simple, Condition, ParHead, RecoverHead, Given, Returned, any_in_part, type_of}
 use Rattle.perm_rules.specs.Liveness.{dead, after, after_argument, after_arguments, arguments_gone, call_gone, instruction_gone, gone}
-use Rattle.perm_rules.specs.Shapes.{unknown_name, lacks_member}
-use Rattle.perm_rules.specs.Refusals.{applies, kinds, refusal, IsAllowed}
+use Rattle.perm_rules.specs.Shapes.{lacks_member}
+use Rattle.perm_rules.specs.Refusals.{applies, kinds, IsAllowed}
 use Rattle.perm_rules.specs.Effects.{changed, instruction_effect}
 use Rattle.perm_rules.proofs.Truth.{implies, implies-at, implies-from, table2, table3}
 use Rattle.perm_rules.proofs.SetLaws.{IsClear, from_test, minus_within, lost_changed, clear_none, clear_minus}
@@ -37,8 +37,17 @@ applies-none c p G h k =
     let h9 = find-none_parts ParShared _ _ h8.1 in
     let h10 = find-none_parts ParPermission _ _ h9.1 in
     elim k as (λ k. applies c p G k ≡ false) [
-      UnknownName ↦ h1.0 | WrongKind ↦ h2.0 | Gone ↦ h3.0 | NeedsConsume ↦ h4.0 | NotAllowedThrough ↦ h5.0
-    | PermissionTooWeak ↦ h6.0 | Hidden ↦ h7.0 | BadGive ↦ h8.0 | ParShared ↦ h9.0 | ParPermission ↦ h10.0 ]
+      | UnknownName ↦ h1.0
+      | WrongKind ↦ h2.0
+      | Gone ↦ h3.0
+      | NeedsConsume ↦ h4.0
+      | NotAllowedThrough ↦ h5.0
+      | PermissionTooWeak ↦ h6.0
+      | Hidden ↦ h7.0
+      | BadGive ↦ h8.0
+      | ParShared ↦ h9.0
+      | ParPermission ↦ h10.0
+    ]
 
 -- where no kind of the one test applies, none of a test applies that holds of fewer
 find-none_less : (f g : TypeKind → Bool) (ks : List TypeKind) → ((k : TypeKind) → g k ≡ true → f k ≡ true) → find f ks ≡ None → find g ks ≡ None
@@ -108,6 +117,7 @@ known_in c p G h x m = elim (cases_lt x (length c.vars)) [ inl lt ↦ lt | inr p
   where
     unknown : Vars
     unknown y = is_none (type_of c y)
+
     clash : length c.vars ≤ x → ⊥
     clash past =
         let none_there : slice_get c.vars x ≡ None = slice_get_past c.vars x past in

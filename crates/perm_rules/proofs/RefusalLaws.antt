@@ -1,17 +1,18 @@
 -- No part is refused exactly where each part is allowed, and so exactly where the code goes.
-use Rattle.std.proofs.Common.{◌≡◌, ℕ, List, [], ◌∷◌, ◌++◌, Option, Some, None, refl, sym, ap, ◌∙◌, subst}
+use Rattle.std.proofs.Common.{◌≡◌, List, [], ◌∷◌, ◌++◌, Option, Some, None, Ok, refl, sym, ap, ◌∙◌, subst}
 use Rattle.perm_tree.specs.declared.ast.Span.{Span}
 use Rattle.perm_tree.specs.declared.errors.TypeKind.{TypeKind}
 use Rattle.perm_tree.specs.declared.errors.TypeError.{TypeError}
 use Rattle.perm_tree.specs.Code.{Code, End, Give, Return, Do, If, While, Par, Recover, Routine, UnitCode}
 use Rattle.perm_tree.specs.Vars.{Vars, minus, IsWithin}
-use Rattle.perm_rules.specs.Parts.{Context, Part, Simple, Condition, RecoverHead, Given, Returned}
+use Rattle.perm_rules.specs.Parts.{Context, Simple, Condition, RecoverHead, Given, Returned}
 use Rattle.perm_rules.specs.Pars.{par_head}
 use Rattle.perm_rules.specs.Refusals.{refusal}
-use Rattle.perm_rules.specs.Effects.{changed, effect, instruction_effect, block_effect, either, both, repeated}
-use Rattle.perm_rules.specs.Goes.{hiding, context, first_live, HaveDerivations}
-use Rattle.perm_rules.specs.FirstRefused.{Entry, entry, entries, error_or, first_error, first_refused, method_refusal, or_later, methods_refusal}
-use Rattle.perm_rules.specs.Laws.{GoesByEffect, LosesOrMakes, GoesFromMore, GoesUnrefused, AcceptedUnrefused}
+use Rattle.perm_rules.specs.Effects.{changed, effect, instruction_effect, block_effect}
+use Rattle.perm_rules.specs.Goes.{Goes, hiding, context, first_live, HaveDerivations}
+use Rattle.perm_rules.specs.FirstRefused.{Entry, entries, error_or, first_error, first_refused, method_refusal, or_later, methods_refusal}
+use Rattle.perm_rules.specs.AtPlace.{context_at, stmt_code_at, flow_unless}
+use Rattle.perm_rules.specs.Laws.{GoesByEffect, LosesOrMakes, GoesFromMore, GoesUnrefused, AcceptedUnrefused, FlowGoes}
 use Rattle.perm_rules.proofs.SetLaws.{changed_within, lost_changed}
 use Rattle.perm_rules.proofs.Fine.{IsFine, fine_clear, fine_monotone}
 use Rattle.perm_rules.proofs.Agree.{agree}
@@ -92,7 +93,7 @@ unrefused_fine c (While at e own body rest) G h =
     let K : Vars = minus G (block_effect own body).lost in
     error_or-pass at (refusal c (Condition e) K) _ h.0
     (none-append (entries c body K) _ (unrefused_fine c body K h.1)
-      (unrefused_fine c rest K (rest_as c rest _ K (sym (lost_changed (block_effect own body).lost G)) h.2)))
+    (unrefused_fine c rest K (rest_as c rest _ K (sym (lost_changed (block_effect own body).lost G)) h.2)))
 unrefused_fine c (Par at own1 a own2 b rest) G h =
     error_or-pass at (refusal c (par_head c own1 a own2 b) G) _ h.0
     (none-append (entries c a G) _ (unrefused_fine c a G h.1) (none-append (entries c b G) _ (unrefused_fine c b G h.2) (unrefused_fine c rest _ h.3)))
@@ -108,15 +109,17 @@ pub clear : LosesOrMakes
 clear c a G H g = fine_clear c a G ((agree c a G).fine H g)
 
 pub monotone : GoesFromMore
-monotone c a G H K w g =
-    (changed (effect a) K,
-      (agree c a K).to (fine_monotone c a G K w ((agree c a G).fine H g)),
-      subst (λ (M : Vars). IsWithin M (changed (effect a) K)) (sym (by_effect c a G H g)) (changed_within (effect a) G K w))
+monotone c a G H K w g = (
+  changed (effect a) K,
+  (agree c a K).to (fine_monotone c a G K w ((agree c a G).fine H g)),
+  subst (λ (M : Vars). IsWithin M (changed (effect a) K)) (sym (by_effect c a G H g)) (changed_within (effect a) G K w),
+)
 
 pub goes_unrefused : GoesUnrefused
-goes_unrefused c a G =
-    (λ p. unrefused_fine c a G ((agree c a G).fine p.0 p.1),
-      λ h. (changed (effect a) G, (agree c a G).to (fine_unrefused c a G h)))
+goes_unrefused c a G = (
+  λ p. unrefused_fine c a G ((agree c a G).fine p.0 p.1),
+  λ h. (changed (effect a) G, (agree c a G).to (fine_unrefused c a G h)),
+)
 
 derived : (u : UnitCode) (rs : List Routine) → methods_refusal u rs ≡ None → HaveDerivations u rs
 derived u [] h = tt
@@ -131,3 +134,22 @@ unrefused u (r ∷ rs) d =
 
 pub accepted_unrefused : AcceptedUnrefused
 accepted_unrefused u = (unrefused u u.routines, derived u u.routines)
+
+-- ---------- statements by their places ----------
+flow-passes : (o : Option TypeError) (H K : Vars) → o ≡ None → H ≡ K → flow_unless o K ≡ Ok H
+flow-passes None H K e f = ap Ok (sym f)
+flow-passes (Some x) H K e f = absurd (cc)
+
+flow-parts : (o : Option TypeError) (H K : Vars) → flow_unless o K ≡ Ok H → (o ≡ None) × (K ≡ H)
+flow-parts None H K h = (refl, cc)
+flow-parts (Some x) H K h = absurd (cc)
+
+pub flow_goes : FlowGoes
+flow_goes u m at s G H =
+    let c : Context = context_at u m s.span in
+    let a : Code = stmt_code_at u m at in (
+      λ g. flow-passes (first_refused c a G) H (changed (effect a) G) ((goes_unrefused c a G).0 (H, g)) (by_effect c a G H g),
+      λ h.
+          let parts = flow-parts (first_refused c a G) H (changed (effect a) G) h in
+          subst (λ (M : Vars). Goes c a G M) parts.1 ((agree c a G).to (fine_unrefused c a G parts.0)),
+    )

@@ -1,11 +1,11 @@
 -- Laws of sets of variables and of effects, by tables of truth values.
-use Rattle.std.proofs.Common.{◌≡◌, ℕ, Bool, true, false, refl, sym, ap, ◌∙◌, subst}
+use Rattle.std.proofs.Common.{◌≡◌, ℕ, Bool, true, false, refl, sym, ap, subst}
 use Rattle.std.specs.Prelude.{not, ◌&&◌, ◌||◌}
 use Rattle.std.proofs.lemmas.Bool.{and_parts, and_from}
 use mathlib.Core.Bool.{beq}
 use mathlib.Core.Path.{fun_ext}
 use Rattle.perm_tree.specs.Vars.{Vars, none, plus, minus, meet, IsWithin}
-use Rattle.perm_rules.specs.Effects.{Effect, changed, no_effect, then, either, both, repeated}
+use Rattle.perm_rules.specs.Effects.{Effect, changed, no_effect, then, either, both}
 use Rattle.perm_rules.specs.Goes.{joined}
 use Rattle.perm_rules.proofs.Truth.{implies, implies-at, implies-from, beq-true, table2, table3, table4, table5, same_bool}
 
@@ -56,7 +56,7 @@ par_changed a b G p q r s = fun_ext (λ x. go (G x) (a.lost x) (a.made x) (b.los
     go g k m l n p q r s =
         beq-true _ _ (implies-at (not (l && m)) _ (implies-at (not (k && n)) _ (implies-at (not (l && n)) _ (implies-at (not (k && m)) _
         (table5 (λ g k m l n. implies (not (k && m)) (implies (not (l && n)) (implies (not (k && n)) (implies (not (l && m))
-          (beq ((g && not ((g && not ((g && not k) || m)) || (g && not ((g && not l) || n)))) || ((((g && not k) || m) && not g) || (((g && not l) || n) && not g))) ((g && not (k || l)) || (m || n))))))) refl g k m l n)
+        (beq ((g && not ((g && not ((g && not k) || m)) || (g && not ((g && not l) || n)))) || ((((g && not k) || m) && not g) || (((g && not l) || n) && not g))) ((g && not (k || l)) || (m || n))))))) refl g k m l n)
         (ap not p)) (ap not q)) (ap not r)) (ap not s))
 
 -- at the end of a block that declares own

@@ -1,6 +1,6 @@
 //! Laws of the typing rules. A law does nothing: its contract is the claim.
 
-ghost use Rattle.perm_rules.specs.Laws.{GoesByEffect, LosesOrMakes, GoesFromMore, GoesUnrefused, AcceptedUnrefused};
+ghost use Rattle.perm_rules.specs.Laws.{GoesByEffect, LosesOrMakes, GoesFromMore, GoesUnrefused, AcceptedUnrefused, FlowGoes};
 
 /// What goes is told by effects, and a larger live set stays larger.
 pub fn effects()
@@ -13,4 +13,5 @@ pub fn effects()
 pub fn refusals()
     ensures code { GoesUnrefused }
     ensures unit { AcceptedUnrefused }
+    ensures flow { FlowGoes }
 {}
