@@ -6,13 +6,14 @@ use Rattle.perm_tree.specs.declared.errors.TypeKind.TheVariants.{ParShared}
 use Rattle.perm_tree.specs.Code.{Instruction, Declare, Assign, LoadField, LoadLength, LoadItem, TakeField, NewObject, NewArray, StoreField, StoreItem, Invoke, Print, Code, End, Give, Return, Do, If, While, Par, Recover}
 use Rattle.perm_tree.specs.Mentions.{argument_consumes, consumes, mentions, mentioned, just_option, any_in_option, term_mentions}
 use Rattle.perm_tree.specs.Vars.{Vars, none, just, below, those, plus, minus, meet, some_below, IsWithin}
+use Rattle.perm_tree.proofs.MentionLaws.{within-left, within-right, within-plus, within-minus}
 use Rattle.perm_rules.specs.Parts.{Context, Simple, Condition, RecoverHead, Given, Returned}
 use Rattle.perm_rules.specs.Pars.{touched, touched_by, touches, uses, par_head, some_var}
 use Rattle.perm_rules.specs.Refusals.{IsAllowed}
 use Rattle.perm_rules.specs.Effects.{Effect, changed, instruction_effect, effect, block_effect, either, both, repeated}
 use Rattle.perm_rules.specs.Goes.{hiding}
 use Rattle.perm_rules.proofs.PartLaws.{applies-none, known_in, allowed_monotone, instruction_clear}
-use Rattle.perm_rules.proofs.SetLaws.{IsApart, IsClear, changed_within, minus_within, clear_then, clear_either, clear_both, clear_closed, clear_none, clear_empty, clear_minus}
+use Rattle.perm_rules.proofs.SetLaws.{IsApart, IsClear, changed_within, clear_then, clear_either, clear_both, clear_closed, clear_none, clear_empty, clear_minus}
 
 -- each part is allowed with its entry set
 abbrev pub IsFine : Context → Code → Vars → Type 0
@@ -66,27 +67,18 @@ nothing C x h = cc
 itself : (C : Vars) → IsWithin C C
 itself C x h = h
 
-plus_within : (A B C D : Vars) → IsWithin A C → IsWithin B D → IsWithin (plus A B) (plus C D)
-plus_within A B C D f g x h = elim (or_cases (A x) (B x) h) [ inl a ↦ or_left (C x) (D x) (f x a) | inr b ↦ or_right (C x) (D x) (g x b) ]
-
 minus_in : (A B C : Vars) → IsWithin A C → IsWithin (minus A B) C
 minus_in A B C f x h = f x (and_parts (A x) (not (B x)) h).0
 
-into_left : (A C D : Vars) → IsWithin A C → IsWithin A (plus C D)
-into_left A C D f x a = or_left (C x) (D x) (f x a)
-
-into_right : (A C D : Vars) → IsWithin A D → IsWithin A (plus C D)
-into_right A C D f x a = or_right (C x) (D x) (f x a)
-
 -- what a statement loses, before a rest
 lost_then : (s t : Effect) (S T : Vars) → IsWithin s.lost S → IsWithin t.lost T → IsWithin (plus (minus s.lost t.made) t.lost) (plus S T)
-lost_then s t S T f g = plus_within (minus s.lost t.made) t.lost S T (minus_in s.lost t.made S f) g
+lost_then s t S T f g = within-plus (minus s.lost t.made) S t.lost T (minus_in s.lost t.made S f) g
 
 made_then : (s t : Effect) (S T : Vars) → IsWithin s.made S → IsWithin t.made T → IsWithin (plus (minus s.made t.lost) t.made) (plus S T)
-made_then s t S T f g = plus_within (minus s.made t.lost) t.made S T (minus_in s.made t.lost S f) g
+made_then s t S T f g = within-plus (minus s.made t.lost) S t.made T (minus_in s.made t.lost S f) g
 
 minus_taken : (C A : Vars) → IsWithin (minus C A) (plus C A)
-minus_taken C A = into_left (minus C A) C A (minus_in C A C (itself C))
+minus_taken C A = within-left (minus C A) C A (minus_in C A C (itself C))
 
 instruction_lost : (i : Instruction) → IsWithin (instruction_effect i).lost (touched_by i)
 instruction_lost (Declare x) = itself _
@@ -116,9 +108,9 @@ lost_branches : (own1 : List ℕ) (a : Code) (own2 : List ℕ) (b rest : Code)
 lost_branches own1 a own2 b rest f g h x l =
     regroup (plus (touched a) (those own1)) (plus (touched b) (those own2)) (touched rest) x
     (lost_then (both (block_effect own1 a) (block_effect own2 b)) (effect rest) (plus (plus (touched a) (those own1)) (plus (touched b) (those own2))) (touched rest)
-    (plus_within _ _ (plus (touched a) (those own1)) (plus (touched b) (those own2))
-    (plus_within _ _ (touched a) (those own1) f (itself (those own1)))
-    (plus_within _ _ (touched b) (those own2) g (itself (those own2)))) h x l)
+    (within-plus _ (plus (touched a) (those own1)) _ (plus (touched b) (those own2))
+    (within-plus _ (touched a) _ (those own1) f (itself (those own1)))
+    (within-plus _ (touched b) _ (those own2) g (itself (those own2)))) h x l)
 
 -- what code loses it assigns, consumes or declares
 pub lost_in : (a : Code) → IsWithin (effect a).lost (touched a)
@@ -127,11 +119,11 @@ lost_in (Give at w x) = minus_taken (just w) (just x)
 lost_in (Return at a) = itself _
 lost_in (Do at i rest) = lost_then (instruction_effect i) (effect rest) (touched_by i) (touched rest) (instruction_lost i) (lost_in rest)
 lost_in (If at e own1 a own2 b rest) = lost_branches own1 a own2 b rest (lost_in a) (lost_in b) (lost_in rest)
-lost_in (While at e own body rest) = lost_then (repeated (block_effect own body)) (effect rest) (plus (touched body) (those own)) (touched rest) (plus_within _ _ (touched body) (those own) (lost_in body) (itself (those own))) (lost_in rest)
+lost_in (While at e own body rest) = lost_then (repeated (block_effect own body)) (effect rest) (plus (touched body) (those own)) (touched rest) (within-plus _ (touched body) _ (those own) (lost_in body) (itself (those own))) (lost_in rest)
 lost_in (Par at own1 a own2 b rest) = lost_branches own1 a own2 b rest (lost_in a) (lost_in b) (lost_in rest)
 lost_in (Recover at x own hides body rest) =
-    into_right _ (just x) (plus (plus (touched body) (those own)) (touched rest))
-    (lost_then (block_effect own body) (effect rest) (plus (touched body) (those own)) (touched rest) (plus_within _ _ (touched body) (those own) (lost_in body) (itself (those own))) (lost_in rest))
+    within-right _ (just x) (plus (plus (touched body) (those own)) (touched rest))
+    (lost_then (block_effect own body) (effect rest) (plus (touched body) (those own)) (touched rest) (within-plus _ (touched body) _ (those own) (lost_in body) (itself (those own))) (lost_in rest))
 
 option_made : (o : Option ℕ) (x : ℕ) → just_option o x ≡ true → any_in_option (nat_eq x) o ≡ true
 option_made None x h = h
@@ -152,31 +144,31 @@ instruction_made (Invoke into tie consumed y routine args) = λ z h. or_left (an
 instruction_made (Print e) = nothing _
 
 closed_made : (own : List ℕ) (a : Code) → IsWithin (effect a).made (mentioned a) → IsWithin (block_effect own a).made (minus (mentioned a) (those own))
-closed_made own a f = minus_within (effect a).made (mentioned a) (those own) f
+closed_made own a f = within-minus (effect a).made (mentioned a) (those own) f
 
 -- what code makes live stands in it
 pub made_in : (a : Code) → IsWithin (effect a).made (mentioned a)
 made_in End = nothing _
-made_in (Give at w x) = into_right (just x) (just w) (just x) (itself (just x))
+made_in (Give at w x) = within-right (just x) (just w) (just x) (itself (just x))
 made_in (Return at a) = nothing _
 made_in (Do at i rest) = made_then (instruction_effect i) (effect rest) (mentions i) (mentioned rest) (instruction_made i) (made_in rest)
 made_in (If at e own1 a own2 b rest) =
-    into_right _ (term_mentions e) (plus (minus (mentioned a) (those own1)) (plus (minus (mentioned b) (those own2)) (mentioned rest)))
+    within-right _ (term_mentions e) (plus (minus (mentioned a) (those own1)) (plus (minus (mentioned b) (those own2)) (mentioned rest)))
     (λ x h. regroup (minus (mentioned a) (those own1)) (minus (mentioned b) (those own2)) (mentioned rest) x
     (made_then (either (block_effect own1 a) (block_effect own2 b)) (effect rest) (plus (minus (mentioned a) (those own1)) (minus (mentioned b) (those own2))) (mentioned rest)
     (λ y m. or_left (minus (mentioned a) (those own1) y) (minus (mentioned b) (those own2) y)
     (closed_made own1 a (made_in a) y (and_parts ((block_effect own1 a).made y) ((block_effect own2 b).made y) m).0))
     (made_in rest) x h))
 made_in (While at e own body rest) =
-    into_right _ (term_mentions e) (plus (minus (mentioned body) (those own)) (mentioned rest))
+    within-right _ (term_mentions e) (plus (minus (mentioned body) (those own)) (mentioned rest))
     (made_then (repeated (block_effect own body)) (effect rest) (minus (mentioned body) (those own)) (mentioned rest) (nothing _) (made_in rest))
 made_in (Par at own1 a own2 b rest) =
     λ x h. regroup (minus (mentioned a) (those own1)) (minus (mentioned b) (those own2)) (mentioned rest) x
     (made_then (both (block_effect own1 a) (block_effect own2 b)) (effect rest) (plus (minus (mentioned a) (those own1)) (minus (mentioned b) (those own2))) (mentioned rest)
-    (plus_within _ _ (minus (mentioned a) (those own1)) (minus (mentioned b) (those own2)) (closed_made own1 a (made_in a)) (closed_made own2 b (made_in b)))
+    (within-plus _ (minus (mentioned a) (those own1)) _ (minus (mentioned b) (those own2)) (closed_made own1 a (made_in a)) (closed_made own2 b (made_in b)))
     (made_in rest) x h)
 made_in (Recover at x own hides body rest) =
-    into_right _ (just x) (plus (minus (mentioned body) (those own)) (mentioned rest))
+    within-right _ (just x) (plus (minus (mentioned body) (those own)) (mentioned rest))
     (made_then (block_effect own body) (effect rest) (minus (mentioned body) (those own)) (mentioned rest) (closed_made own body (made_in body)) (made_in rest))
 
 -- ---------- the two sides of a par ----------
@@ -207,7 +199,7 @@ one_side c own1 a own2 b G apart fine x = false_from_ne_true ((block_effect own1
         let stands = closed_made own2 b (made_in b) x parts.1 in
         let known : x < length c.vars = known_code c b G fine x (and_parts (mentioned b x) (not (those own2 x)) stands).0 in
         let there : below (length c.vars) x ≡ true = below-true (length c.vars) x known in
-        let touched_x = plus_within _ _ (touched a) (those own1) (lost_in a) (itself (those own1)) x parts.0 in
+        let touched_x = within-plus _ (touched a) _ (those own1) (lost_in a) (itself (those own1)) x parts.0 in
         let left : touches c own1 a x ≡ true = and_from (below (length c.vars) x) (plus (touched a) (those own1) x) there touched_x in
         let right : uses c own2 b x ≡ true = and_from (below (length c.vars) x) (minus (mentioned b) (those own2) x) there stands in
         let met : meet (touches c own1 a) (uses c own2 b) x ≡ true = and_from (touches c own1 a x) (uses c own2 b x) left right in
@@ -262,7 +254,7 @@ fine_monotone c (If at e own1 a own2 b rest) G H w h = (
   fine_monotone c rest _ _ (changed_within (either (block_effect own1 a) (block_effect own2 b)) G H w) h.3,
 )
 fine_monotone c (While at e own body rest) G H w h =
-    let less = minus_within G H (block_effect own body).lost w in
+    let less = within-minus G H (block_effect own body).lost w in
     (allowed_monotone c (Condition e) _ _ less h.0, fine_monotone c body _ _ less h.1, fine_monotone c rest _ _ (changed_within (repeated (block_effect own body)) G H w) h.2)
 fine_monotone c (Par at own1 a own2 b rest) G H w h = (
   allowed_monotone c (par_head c own1 a own2 b) G H w h.0,

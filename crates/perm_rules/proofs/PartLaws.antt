@@ -10,13 +10,14 @@ use Rattle.perm_tree.specs.declared.errors.TypeKind.TheVariants.{UnknownName, Wr
 use Rattle.perm_tree.specs.Code.{Term, LongLit, BoolLit, NullLit, Local, Unary, Binary, Argument, Expression, Consumed, Instruction, Declare, Assign, LoadField, LoadLength, LoadItem, TakeField, NewObject, NewArray, StoreField, StoreItem, Invoke, Print}
 use Rattle.perm_tree.specs.Mentions.{any_in_term, any_in_argument, any_in_option, any_in_instruction, argument_consumes, consumes, assigns}
 use Rattle.perm_tree.specs.Vars.{Vars, none, just, plus, minus, IsWithin}
+use Rattle.perm_tree.proofs.MentionLaws.{within-minus}
 use Rattle.perm_rules.specs.Parts.{Context, Part, Simple, Condition, ParHead, RecoverHead, Given, Returned, any_in_part, type_of}
 use Rattle.perm_rules.specs.Liveness.{dead, after, after_argument, after_arguments, arguments_gone, call_gone, instruction_gone, gone}
 use Rattle.perm_rules.specs.Shapes.{lacks_member}
 use Rattle.perm_rules.specs.Refusals.{applies, kinds, IsAllowed}
 use Rattle.perm_rules.specs.Effects.{changed, instruction_effect}
 use Rattle.perm_rules.proofs.Truth.{implies, implies-at, implies-from, table2, table3}
-use Rattle.perm_rules.proofs.SetLaws.{IsClear, from_test, minus_within, lost_changed, clear_none, clear_minus}
+use Rattle.perm_rules.proofs.SetLaws.{IsClear, from_test, lost_changed, clear_none, clear_minus}
 
 -- ---------- kinds ----------
 find-none_parts : (k : TypeKind) (a : Bool) (rest : Option TypeKind) → cond a (Some k) rest ≡ None → (a ≡ false) × (rest ≡ None)
@@ -133,7 +134,7 @@ dead_within G H w x h =
     implies-at _ _ (implies-at _ _ (table2 (λ g k. implies (implies g k) (implies (not k) (not g))) refl (G x) (H x)) (implies-from (G x) (H x) (w x))) h
 
 after_argument-within : (a : Argument) (G H : Vars) → IsWithin G H → IsWithin (after_argument a G) (after_argument a H)
-after_argument-within a G H w = minus_within G H (argument_consumes a) w
+after_argument-within a G H w = within-minus G H (argument_consumes a) w
 
 after_arguments-within : (args : List Argument) (G H : Vars) → IsWithin G H → IsWithin (after_arguments args G) (after_arguments args H)
 after_arguments-within [] G H w = w
@@ -147,7 +148,7 @@ arguments_gone-within (a ∷ rest) G H w h =
 
 call_gone-within : (consumed : Bool) (y : ℕ) (args : List Argument) (G H : Vars) → IsWithin G H → call_gone consumed y args H ≡ true → call_gone consumed y args G ≡ true
 call_gone-within true y args G H w h =
-    or_within _ _ _ _ (dead_within G H w y) (arguments_gone-within args (minus G (just y)) (minus H (just y)) (minus_within G H (just y) w)) h
+    or_within _ _ _ _ (dead_within G H w y) (arguments_gone-within args (minus G (just y)) (minus H (just y)) (within-minus G H (just y) w)) h
 call_gone-within false y args G H w h =
     or_within _ _ _ _ (arguments_gone-within args G H w) (dead_within (after_arguments args G) (after_arguments args H) (after_arguments-within args G H w) y) h
 

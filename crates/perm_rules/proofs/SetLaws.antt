@@ -22,9 +22,6 @@ pub changed_within : (e : Effect) (G H : Vars) → IsWithin G H → IsWithin (ch
 changed_within e G H w x h =
     implies-at _ _ (implies-at _ _ (table4 (λ g k l m. implies (implies g k) (implies ((g && not l) || m) ((k && not l) || m))) refl (G x) (H x) (e.lost x) (e.made x)) (implies-from (G x) (H x) (w x))) h
 
-pub minus_within : (G H L : Vars) → IsWithin G H → IsWithin (minus G L) (minus H L)
-minus_within G H L w x h = let parts = and_parts (G x) (not (L x)) h in and_from (H x) (not (L x)) (w x parts.0) parts.1
-
 pub minus_part : (G L : Vars) → IsWithin (minus G L) G
 minus_part G L x h = (and_parts (G x) (not (L x)) h).0
 

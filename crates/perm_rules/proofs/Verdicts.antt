@@ -4,7 +4,7 @@ use Rattle.perm_tree.specs.declared.errors.TypeKind.{TypeKind}
 use Rattle.perm_tree.specs.declared.errors.TypeKind.TheVariants.{Gone, NeedsConsume, Hidden, ParShared, ParPermission}
 use Rattle.perm_tree.specs.declared.errors.TypeError.{TypeError}
 use Rattle.perm_tree.specs.CodeOf.{code_of}
-use Rattle.perm_tree.proofs.Builder.{Source, place_in}
+use Rattle.perm_tree.proofs.Builder.{Source, place_in, text_of}
 use Rattle.perm_tree.proofs.Programs.{unit, p1, p1_gone, p2, p5, p5_new, p5_test, p6, p6_immutable, p7, p8, p12, p13, p14}
 use Rattle.perm_tree.proofs.ParPrograms.{p3, p4, p4_read, p4_both, p4_shared, p9, p10, p11, p11_shared}
 use Rattle.perm_rules.specs.FirstRefused.{unit_refusal}
@@ -19,7 +19,7 @@ refused_at k place = Refused k place.0 place.1
 
 abbrev verdict_by : Source → Option TypeError → Verdict
 verdict_by s None = Accepted
-verdict_by s (Some e) = refused_at e.kind (place_in s e.span.start)
+verdict_by s (Some e) = refused_at e.kind (place_in (text_of s) e.span.start)
 
 abbrev pub verdict : Source → Verdict
 verdict s = verdict_by s (unit_refusal (code_of (unit s)))

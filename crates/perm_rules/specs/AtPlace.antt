@@ -26,13 +26,15 @@ use Rattle.perm_rules.specs.Goes.{Goes, context, hiding, HasDerivation}
 use Rattle.perm_rules.specs.FirstRefused.{first_refused, method_refusal}
 
 -- ---------- the method with number m ----------
+-- what a number past the last stands for: a method of no statements
 abbrev pub no_routine : Routine
 no_routine = record { class = 0; receiver = Readable; result = Long; params = []; vars = []; code = End }
 
--- its code; a number past the last stands for a method of no statements
+-- its types and its code
 abbrev pub routine_at : Tables → ℕ → Routine
 routine_at u m = get_or (code_of u).routines m no_routine
 
+-- the variables of a table, if it is there
 abbrev pub vars_if : Option MethodTable → List VarInfo
 vars_if None = []
 vars_if (Some t) = t.vars
@@ -58,11 +60,12 @@ refusal_at u m = method_refusal (code_of u) (routine_at u m)
 abbrev pub is_round : Span → Span → Span → Bool
 is_round head whole at = nat_le head.end at.start && nat_le at.end whole.end
 
+-- what a right side hides at a place: the tied variables declared before its recover block, if that stands round the place
 abbrev pub rhs_hides : List VarInfo → Span → Stmt → Rhs → List ℕ
 rhs_hides vars at s (Recover b w give) = cond (is_round s.head s.span at) (tied_before s.head.end 0 vars) []
 rhs_hides vars at s _ = []
 
--- the variables that a statement hides at a place: those that the recover block round it hides
+-- the same of a statement
 abbrev pub hides_at : List VarInfo → Span → Stmt → StmtKind → List ℕ
 hides_at vars at s (Assign t x r) = rhs_hides vars at s r
 hides_at vars at s _ = []
@@ -99,6 +102,7 @@ uses_of u m b = uses (plain_context u m) (own_at u m b) (block_code_at u m b)
 abbrev pub sets_of : Tables → ℕ → Block → Vars
 sets_of u m b = sets (plain_context u m) (own_at u m b) (block_code_at u m b)
 
+-- the mode, unless the par is refused
 abbrev pub mode_unless : Option TypeKind → ParMode → Result ParMode TypeKind
 mode_unless None mode = Ok mode
 mode_unless (Some k) mode = Err k
@@ -123,6 +127,7 @@ StmtGoes u m at s G H = Goes (context_at u m s.span) (stmt_code_at u m at) G H
 abbrev pub stmt_refusal : Tables → ℕ → ℕ → Stmt → Vars → Option TypeError
 stmt_refusal u m at s G = first_refused (context_at u m s.span) (stmt_code_at u m at) G
 
+-- the live set, unless something is refused
 abbrev pub flow_unless : Option TypeError → Vars → Result Vars TypeError
 flow_unless None H = Ok H
 flow_unless (Some e) H = Err e

@@ -13,6 +13,7 @@ pub record Effect : Type 0 where
 abbrev pub changed : Effect → Vars → Vars
 changed e G = plus (minus G e.lost) e.made
 
+-- nothing is lost and nothing made
 abbrev pub no_effect : Effect
 no_effect = record { lost = none; made = none }
 

@@ -18,6 +18,7 @@ pub record Entry : Type 0 where
   pub part : Part
   pub live : Vars
 
+-- an entry from its parts
 abbrev pub entry : Context → Span → Part → Vars → Entry
 entry c at p G = record { at = at; context = c; part = p; live = G }
 
@@ -55,10 +56,12 @@ first_refused c a G = first_error (entries c a G)
 abbrev pub method_refusal : UnitCode → Routine → Option TypeError
 method_refusal u r = first_refused (context u r) r.code (first_live r)
 
+-- the one error, or else a later one
 abbrev pub or_later : Option TypeError → Option TypeError → Option TypeError
 or_later None later = later
 or_later (Some e) later = Some e
 
+-- the first refused part of some methods
 abbrev pub methods_refusal : UnitCode → List Routine → Option TypeError
 methods_refusal u [] = None
 methods_refusal u (r ∷ rs) = or_later (method_refusal u r) (methods_refusal u rs)

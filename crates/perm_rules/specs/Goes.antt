@@ -51,6 +51,7 @@ first_live r = below (1 + length r.params)
 abbrev pub HasDerivation : UnitCode → Routine → Type 0
 HasDerivation u r = (H : Vars) × Goes (context u r) r.code (first_live r) H
 
+-- some methods all have derivations
 abbrev pub HaveDerivations : UnitCode → List Routine → Type 0
 HaveDerivations u [] = Unit {0}
 HaveDerivations u (r ∷ rs) = HasDerivation u r × HaveDerivations u rs

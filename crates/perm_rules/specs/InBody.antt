@@ -11,6 +11,7 @@ use Rattle.perm_tree.specs.declared.unit.MethodTable.{MethodTable}
 use Rattle.perm_tree.specs.Lookup.{method_of}
 use Rattle.perm_tree.specs.UnitTables.{Tables}
 
+-- the block of a recover
 abbrev pub rhs_blocks : Rhs → List Block
 rhs_blocks (Recover b w give) = b ∷ []
 rhs_blocks _ = []
@@ -29,9 +30,11 @@ abbrev pub places_with : List (List ℕ) → List ℕ → List ℕ
 places_with inner [] = []
 places_with inner (i ∷ is) = i ∷ (get_or inner i [] ++ places_with inner is)
 
+-- the places of the statements within a statement's blocks
 abbrev pub places_within : List (List ℕ) → StmtKind → List ℕ
 places_within inner k = flat_map (λ b. places_with inner b.stmts) (blocks_of k)
 
+-- the same for each of some statements, behind those of the statements before them
 abbrev pub all_within_from : List (List ℕ) → List Stmt → List (List ℕ)
 all_within_from inner [] = inner
 all_within_from inner (s ∷ ss) = all_within_from (inner ++ places_within inner s.kind ∷ []) ss
@@ -40,10 +43,12 @@ all_within_from inner (s ∷ ss) = all_within_from (inner ++ places_within inner
 abbrev pub all_within : List Stmt → List (List ℕ)
 all_within stmts = all_within_from [] stmts
 
+-- the statements of a method's body, if the method is there
 abbrev pub body_if : Option Method → List ℕ
 body_if None = []
 body_if (Some d) = d.body.stmts
 
+-- the method of a table, if that is there
 abbrev pub method_if : Tables → Option MethodTable → Option Method
 method_if u None = None
 method_if u (Some t) = method_of u.program t

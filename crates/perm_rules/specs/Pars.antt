@@ -41,9 +41,11 @@ abbrev pub par_head : Context → List ℕ → Code → List ℕ → Code → Pa
 par_head c own1 a own2 b = ParHead (uses c own1 a) (uses c own2 b) (touches c own1 a) (touches c own2 b)
 
 -- ---------- variables by their permission ----------
+-- the isolated variables of the method
 abbrev pub isolated_vars : Context → Vars
 isolated_vars c x = has_isolated (type_of c x)
 
+-- the writable variables of the method
 abbrev pub writable_vars : Context → Vars
 writable_vars c x = if_reference (type_of c x) is_writable
 
@@ -61,6 +63,7 @@ abbrev pub par_shared : Context → Part → Bool
 par_shared c (ParHead u1 u2 a1 a2) = some_var c (meet a1 u2) || (some_var c (meet a2 u1) || some_var c (meet (isolated_vars c) (meet u1 u2)))
 par_shared c _ = false
 
+-- a writable variable is in a set
 abbrev pub has_writable : Context → Vars → Bool
 has_writable c u = some_var c (meet (writable_vars c) u)
 
@@ -74,6 +77,7 @@ par_permission c (ParHead u1 u2 a1 a2) = (has_writable c u1 || has_writable c u2
 par_permission c _ = false
 
 -- ---------- the mode ----------
+-- the mode, by whether a writable variable stands in the blocks and whether the left one can stand alone
 abbrev pub mode_by : Bool → Bool → ParMode
 mode_by false left_can = Symmetric
 mode_by true true = LeftAlone

@@ -69,7 +69,7 @@ abbrev pub if_reference : Option Ty → (Perm → Bool) → Bool
 if_reference (Some (Ref p k)) test = test p
 if_reference _ test = false
 
--- ---------- tests of types ----------
+-- ---------- tests of permissions and types ----------
 abbrev pub is_isolated : Perm → Bool
 is_isolated Isolated = true
 is_isolated _ = false
@@ -78,6 +78,7 @@ abbrev pub is_writable : Perm → Bool
 is_writable Writable = true
 is_writable _ = false
 
+-- the type is known to be isolated
 abbrev pub has_isolated : Option Ty → Bool
 has_isolated t = if_reference t is_isolated
 
@@ -95,5 +96,6 @@ abbrev pub is_long_array : Ty → Bool
 is_long_array (Ref p Array) = true
 is_long_array _ = false
 
+-- `long` or `bool`
 abbrev pub isnt_reference : Ty → Bool
 isnt_reference t = not (is_reference t)

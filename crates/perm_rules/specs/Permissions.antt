@@ -19,6 +19,7 @@ use Rattle.perm_rules.specs.Sorts.{Sort, Typed, argument_sort, is_null_test}
 use Rattle.perm_rules.specs.Shapes.{taker_type}
 
 -- ---------- a consume is needed ----------
+-- the operator is `==` or `!=`
 abbrev pub is_equality : BinaryOp → Bool
 is_equality Equal = true
 is_equality Differs = true
@@ -31,6 +32,7 @@ term_needs c (Unary op a) = term_needs c a
 term_needs c (Binary op a b) = not (is_equality op && is_null_test c a b) && (term_needs c a || term_needs c b)
 term_needs c _ = false
 
+-- the same of an argument, where it isn't consumed
 abbrev pub argument_needs : Context → Argument → Bool
 argument_needs c (Expression e) = term_needs c e
 argument_needs c (Consumed y) = false
@@ -51,6 +53,7 @@ abbrev pub call_needs : Tie → Option Routine → Bool
 call_needs Lends (Some r) = keeps_receiver r.receiver
 call_needs _ _ = false
 
+-- the same of a simple statement, with reads of isolated fields and lent receivers
 abbrev pub instruction_needs : Context → Instruction → Bool
 instruction_needs c (Assign x a) = argument_needs c a
 instruction_needs c (LoadField x y f) = if_both_known (type_of c y) (field_type c y f) read_needs
@@ -110,13 +113,16 @@ not_allowed_through c _ = false
 abbrev pub weak : Option Ty → Option Ty → Bool
 weak t u = if_both_known t u is_too_weak
 
+-- the type of a value, if it has one that is known
 abbrev pub type_if : Sort → Option Ty
 type_if (Typed t) = Some t
 type_if _ = None
 
+-- the value of an argument has the shape of a type, and too weak a permission
 abbrev pub argument_weak : Context → Argument → Option Ty → Bool
 argument_weak c a t = weak (type_if (argument_sort c a)) t
 
+-- the same of some argument beside its parameter
 abbrev pub arguments_weak : Context → List Argument → List Ty → Bool
 arguments_weak c (a ∷ rest) (t ∷ ts) = argument_weak c a (Some t) || arguments_weak c rest ts
 arguments_weak c _ _ = false
@@ -136,6 +142,7 @@ abbrev pub receiver_weak : Tie → Option Ty → Perm → Bool
 receiver_weak Lends t r = false
 receiver_weak _ t r = if_reference t (λ p. not (is_at_most p r))
 
+-- of a call an argument, the receiver or the result is too weak
 abbrev pub call_weak : Context → Option ℕ → Tie → ℕ → List Argument → Option Routine → Bool
 call_weak c into tie y args None = false
 call_weak c into tie y args (Some r) =

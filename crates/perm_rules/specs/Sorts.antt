@@ -16,6 +16,7 @@ pub data Sort : Type 0 where
   Null : Sort
   Typed : (t : Ty) → Sort
 
+-- a variable's, by its type
 abbrev pub sort_if : Option Ty → Sort
 sort_if None = Unknown
 sort_if (Some t) = Typed t
@@ -25,6 +26,7 @@ abbrev pub unary_type : UnaryOp → Ty
 unary_type Negative = Long
 unary_type Not = Boolean
 
+-- the same of a binary operator
 abbrev pub binary_type : BinaryOp → Ty
 binary_type Mul = Long
 binary_type Div = Long
@@ -64,6 +66,7 @@ isnt_value_of Null t = isnt_reference t
 isnt_value_of (Typed u) t = differ u t
 
 -- ---------- operands ----------
+-- nothing is known that keeps the variable from being a reference
 abbrev pub may_be_reference : Option Ty → Bool
 may_be_reference None = true
 may_be_reference (Some t) = is_reference t
