@@ -119,7 +119,7 @@ two own1 a own2 b rest here there later =
 
 pub written-within : (c : Code) → IsWithin (written c) (mentioned c)
 written-within End = none-within none
-written-within (Give at w x) = same-within (just w)
+written-within (Give at w x) = same-within (plus (just w) (just x))
 written-within (Return at a) = argument-within a
 written-within (Do at i rest) =
     within-plus (plus (consumes i) (assigns i)) (mentions i) (written rest) (mentioned rest) (within-both (consumes i) (assigns i) (mentions i) (consumes-within i) (assigns-within i)) (written-within rest)

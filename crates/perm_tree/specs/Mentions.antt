@@ -93,7 +93,7 @@ assigns _ = none
 -- the variables that stand anywhere in a code, an assigned variable included, but those that blocks within it declare
 abbrev pub mentioned : Code → Vars
 mentioned End = none
-mentioned (Give at w x) = just w
+mentioned (Give at w x) = plus (just w) (just x)
 mentioned (Return at a) = argument_mentions a
 mentioned (Do at i rest) = plus (mentions i) (mentioned rest)
 mentioned (If at e own1 a own2 b rest) =
@@ -105,7 +105,7 @@ mentioned (Recover at x own hides body rest) = plus (just x) (plus (minus (menti
 -- those that it assigns or consumes anywhere, run or not
 abbrev pub written : Code → Vars
 written End = none
-written (Give at w x) = just w
+written (Give at w x) = plus (just w) (just x)
 written (Return at a) = argument_consumes a
 written (Do at i rest) = plus (plus (consumes i) (assigns i)) (written rest)
 written (If at e own1 a own2 b rest) = plus (minus (written a) (those own1)) (plus (minus (written b) (those own2)) (written rest))

@@ -1,0 +1,5 @@
+pub mod OverAll
+pub mod OrderLaws
+pub mod OrderPairs
+pub mod AdaptationLaws
+mod Tables

@@ -1,0 +1,4 @@
+pub mod Order
+pub mod Adaptation
+pub mod Types
+pub mod Laws

@@ -1,0 +1,77 @@
+-- Statements and blocks named by their places, by computation.
+use Rattle.std.specs.Prelude.{◌≡◌, ℕ, Bool, true, false, List, [], ◌∷◌, map, Option, Some, None, slice_get, refl, Result, Ok, Err}
+use Rattle.perm_tree.specs.declared.ast.Stmt.{Stmt}
+use Rattle.perm_tree.specs.declared.errors.TypeKind.{TypeKind}
+use Rattle.perm_tree.specs.declared.errors.TypeKind.TheVariants.{Gone, Hidden, ParShared, ParPermission}
+use Rattle.perm_tree.specs.declared.errors.TypeError.{TypeError}
+use Rattle.perm_tree.specs.UnitTables.{Tables}
+use Rattle.perm_tree.specs.Vars.{Vars, below}
+use Rattle.perm_tree.proofs.Programs.{unit, p6}
+use Rattle.perm_tree.proofs.ParPrograms.{p4, p4_both, p11, p11_shared}
+use Rattle.perm_rules.specs.declared.ParMode.{ParMode}
+use Rattle.perm_rules.specs.declared.ParMode.TheVariants.{Symmetric, LeftAlone}
+use Rattle.perm_rules.specs.AtPlace.{flow_of, par_mode_of, uses_of, sets_of}
+use Rattle.perm_rules.specs.InBody.{body_places}
+
+-- the first six variables, each as whether it is in a set
+abbrev first_six : Vars → List Bool
+first_six G = map G (0 ∷ 1 ∷ 2 ∷ 3 ∷ 4 ∷ 5 ∷ [])
+
+pub data Flow : Type 0 where
+  GoesTo : (live : List Bool) → Flow
+  StopsAt : (k : TypeKind) → Flow
+  NoStmt : Flow
+
+abbrev flow_shown : Result Vars TypeError → Flow
+flow_shown (Ok G) = GoesTo (first_six G)
+flow_shown (Err e) = StopsAt e.kind
+
+abbrev flow_if : Tables → ℕ → ℕ → Option Stmt → Vars → Flow
+flow_if u m at None G = NoStmt
+flow_if u m at (Some s) G = flow_shown (flow_of u m at s G)
+
+-- the flow of the statement at a place of the method with number m
+abbrev flow : Tables → ℕ → ℕ → Vars → Flow
+flow u m at G = flow_if u m at (slice_get u.program.stmts at) G
+
+-- `w.other = r;` within a recover block that hides r
+field_of_hidden : flow (unit p6) 0 3 (below 6) ≡ StopsAt Hidden
+field_of_hidden = refl
+
+-- `readable Box r = consume a;` makes variable 3 live, and variable 2 no longer
+consumes : flow (unit p6) 0 1 (below 3) ≡ GoesTo (true ∷ true ∷ false ∷ true ∷ false ∷ false ∷ [])
+consumes = refl
+
+-- the same from a set without variable 2
+consumes_gone : flow (unit p6) 0 1 (below 2) ≡ StopsAt Gone
+consumes_gone = refl
+
+abbrev mode : Tables → ℕ → List ℕ → List ℕ → Result ParMode TypeKind
+mode u m a b = par_mode_of u m (record { stmts = a }) (record { stmts = b })
+
+-- `a = 1;` beside `b = 2;`
+numbers-symmetric : mode (unit p11) 0 (2 ∷ []) (3 ∷ []) ≡ Ok Symmetric
+numbers-symmetric = refl
+
+-- `a = 1;` beside `a = 2;`
+numbers-shared : mode (unit p11_shared) 0 (2 ∷ []) (3 ∷ []) ≡ Err ParShared
+numbers-shared = refl
+
+-- `got = d.Bump();`, which lends d, beside `this.mark = 5;`
+lends-left_alone : mode (unit p4) 1 (6 ∷ []) (7 ∷ []) ≡ Ok LeftAlone
+lends-left_alone = refl
+
+-- `this.mark = 4;` beside `this.mark = 5;`
+marks-permission : mode (unit p4_both) 1 (6 ∷ []) (7 ∷ []) ≡ Err ParPermission
+marks-permission = refl
+
+-- `got = d.Bump();` mentions d and got, and assigns got
+bump-uses : first_six (uses_of (unit p4) 1 (record { stmts = 6 ∷ [] })) ≡ false ∷ false ∷ false ∷ true ∷ true ∷ false ∷ []
+bump-uses = refl
+
+bump-sets : first_six (sets_of (unit p4) 1 (record { stmts = 6 ∷ [] })) ≡ false ∷ false ∷ false ∷ false ∷ true ∷ false ∷ []
+bump-sets = refl
+
+-- the body of `Run`, where the two statements of the par stand before it
+bodies : map (body_places (unit p4)) (0 ∷ 1 ∷ 2 ∷ []) ≡ (0 ∷ 1 ∷ []) ∷ (2 ∷ 3 ∷ 4 ∷ 5 ∷ 8 ∷ 6 ∷ 7 ∷ 9 ∷ 10 ∷ []) ∷ [] ∷ []
+bodies = refl

@@ -1,0 +1,47 @@
+-- Laws of truth values, by a test over all of them that the checker computes.
+use Rattle.std.specs.Prelude.{◌≡◌, Bool, true, false, not, ◌&&◌, ◌||◌, refl}
+use Rattle.std.proofs.lemmas.Bool.{and_parts}
+use mathlib.Core.Bool.{beq}
+
+-- the test holds of both
+abbrev pub each : (Bool → Bool) → Bool
+each f = f true && f false
+
+pub each-at : (f : Bool → Bool) → each f ≡ true → (b : Bool) → f b ≡ true
+each-at f h true = (and_parts (f true) (f false) h).0
+each-at f h false = (and_parts (f true) (f false) h).1
+
+abbrev pub implies : Bool → Bool → Bool
+implies a b = not a || b
+
+pub implies-at : (a b : Bool) → implies a b ≡ true → a ≡ true → b ≡ true
+implies-at true b h e = h
+implies-at false b h e = cc
+
+pub implies-from : (a b : Bool) → (a ≡ true → b ≡ true) → implies a b ≡ true
+implies-from true b f = f refl
+implies-from false b f = refl
+
+pub beq-true : (a b : Bool) → beq a b ≡ true → a ≡ b
+beq-true true true h = refl
+beq-true true false h = cc
+beq-true false true h = cc
+beq-true false false h = refl
+
+pub table2 : (f : Bool → Bool → Bool) → each (λ a. each (f a)) ≡ true → (a b : Bool) → f a b ≡ true
+table2 f h a b = each-at (f a) (each-at (λ a. each (f a)) h a) b
+
+pub table3 : (f : Bool → Bool → Bool → Bool) → each (λ a. each (λ b. each (f a b))) ≡ true → (a b c : Bool) → f a b c ≡ true
+table3 f h a b c = table2 (f a) (each-at (λ a. each (λ b. each (f a b))) h a) b c
+
+pub table4 : (f : Bool → Bool → Bool → Bool → Bool) → each (λ a. each (λ b. each (λ c. each (f a b c)))) ≡ true → (a b c d : Bool) → f a b c d ≡ true
+table4 f h a b c d = table3 (f a) (each-at (λ a. each (λ b. each (λ c. each (f a b c)))) h a) b c d
+
+pub table5 : (f : Bool → Bool → Bool → Bool → Bool → Bool) → each (λ a. each (λ b. each (λ c. each (λ d. each (f a b c d))))) ≡ true → (a b c d e : Bool) → f a b c d e ≡ true
+table5 f h a b c d e = table4 (f a) (each-at (λ a. each (λ b. each (λ c. each (λ d. each (f a b c d))))) h a) b c d e
+
+pub same_bool : (a b : Bool) → (a ≡ true → b ≡ true) → (b ≡ true → a ≡ true) → a ≡ b
+same_bool true true f g = refl
+same_bool true false f g = let e : false ≡ true = f refl in cc
+same_bool false true f g = g refl
+same_bool false false f g = refl

@@ -1,0 +1,5 @@
+use Rattle.perm_rules.proofs.RefusalLaws.{by_effect, clear, monotone}
+use Rattle.perm_rules.proofs.laws.effects.Goals as goal
+
+pub returns : goal.returns
+returns c = record { by_effect = by_effect; clear = clear; monotone = monotone }

@@ -1,0 +1,137 @@
+-- The rules for a method, a statement or a block that is named by its place in a unit.
+use Rattle.std.specs.Prelude.{ℕ, Bool, true, ◌&&◌, nat_le, List, [], flat_map, get_or, Option, Some, None, slice_get, cond, Result, Ok, Err}
+use Rattle.perm_tree.specs.declared.ast.Span.{Span}
+use Rattle.perm_tree.specs.declared.ast.Stmt.{Stmt}
+use Rattle.perm_tree.specs.declared.ast.StmtKind.{StmtKind}
+use Rattle.perm_tree.specs.declared.ast.StmtKind.TheVariants.{Assign}
+use Rattle.perm_tree.specs.declared.ast.Rhs.{Rhs}
+use Rattle.perm_tree.specs.declared.ast.Rhs.TheVariants.{Recover}
+use Rattle.perm_tree.specs.declared.ast.Block.{Block}
+use Rattle.perm_tree.specs.declared.ast.Perm.TheVariants.{Readable}
+use Rattle.perm_tree.specs.declared.ast.Ty.TheVariants.{Long}
+use Rattle.perm_tree.specs.declared.errors.TypeError.{TypeError}
+use Rattle.perm_tree.specs.declared.errors.TypeKind.{TypeKind}
+use Rattle.perm_tree.specs.declared.unit.MethodTable.{MethodTable}
+use Rattle.perm_tree.specs.declared.unit.VarInfo.{VarInfo}
+use Rattle.perm_tree.specs.Code.{Code, End, Routine}
+use Rattle.perm_tree.specs.CodeOf.{Setting, setting, code_of, stmt_code, block_code, own_vars, tied_before}
+use Rattle.perm_tree.specs.UnitTables.{Tables}
+use Rattle.perm_tree.specs.Vars.{Vars}
+use Rattle.perm_rules.specs.declared.ParMode.{ParMode}
+use Rattle.perm_rules.specs.Parts.{Context}
+use Rattle.perm_rules.specs.Pars.{uses, sets, par_head, mode_of}
+use Rattle.perm_rules.specs.Refusals.{refusal}
+use Rattle.perm_rules.specs.Effects.{Effect, effect, changed, block_effect}
+use Rattle.perm_rules.specs.Goes.{Goes, context, hiding, HasDerivation}
+use Rattle.perm_rules.specs.FirstRefused.{first_refused, method_refusal}
+
+-- ---------- the method with number m ----------
+-- what a number past the last stands for: a method of no statements
+abbrev pub no_routine : Routine
+no_routine = record { class = 0; receiver = Readable; result = Long; params = []; vars = []; code = End }
+
+-- its types and its code
+abbrev pub routine_at : Tables → ℕ → Routine
+routine_at u m = get_or (code_of u).routines m no_routine
+
+-- the variables of a table, if it is there
+abbrev pub vars_if : Option MethodTable → List VarInfo
+vars_if None = []
+vars_if (Some t) = t.vars
+
+-- its variables
+abbrev pub vars_at : Tables → ℕ → List VarInfo
+vars_at u m = vars_if (slice_get u.tables m)
+
+-- what its code is made with
+abbrev pub setting_at : Tables → ℕ → Setting
+setting_at u m = setting u (vars_at u m)
+
+-- it has a derivation
+abbrev pub IsDerivedAt : Tables → ℕ → Type 0
+IsDerivedAt u m = HasDerivation (code_of u) (routine_at u m)
+
+-- its first refused part
+abbrev pub refusal_at : Tables → ℕ → Option TypeError
+refusal_at u m = method_refusal (code_of u) (routine_at u m)
+
+-- ---------- what is hidden at a place ----------
+-- a place stands behind the head of a recover block, and before its end
+abbrev pub is_round : Span → Span → Span → Bool
+is_round head whole at = nat_le head.end at.start && nat_le at.end whole.end
+
+-- what a right side hides at a place: the tied variables declared before its recover block, if that stands round the place
+abbrev pub rhs_hides : List VarInfo → Span → Stmt → Rhs → List ℕ
+rhs_hides vars at s (Recover b w give) = cond (is_round s.head s.span at) (tied_before s.head.end 0 vars) []
+rhs_hides vars at s _ = []
+
+-- the same of a statement
+abbrev pub hides_at : List VarInfo → Span → Stmt → StmtKind → List ℕ
+hides_at vars at s (Assign t x r) = rhs_hides vars at s r
+hides_at vars at s _ = []
+
+-- the variables that are hidden at a place of a method
+abbrev pub hidden_at : Tables → ℕ → Span → List ℕ
+hidden_at u m at = flat_map (λ s. hides_at (vars_at u m) at s s.kind) u.program.stmts
+
+-- what the parts at a place of a method are checked by
+abbrev pub context_at : Tables → ℕ → Span → Context
+context_at u m at = hiding (hidden_at u m at) (context (code_of u) (routine_at u m))
+
+-- ---------- blocks ----------
+abbrev pub block_code_at : Tables → ℕ → Block → Code
+block_code_at u m b = block_code (setting_at u m) b.stmts End
+
+-- the variables that a block of a method itself declares
+abbrev pub own_at : Tables → ℕ → Block → List ℕ
+own_at u m b = own_vars (setting_at u m) b.stmts
+
+-- what a block loses and makes, its own variables lost at its end
+abbrev pub effect_of : Tables → ℕ → Block → Effect
+effect_of u m b = block_effect (own_at u m b) (block_code_at u m b)
+
+-- what the blocks of a method are checked by, where nothing is hidden; the sets of variables and the par tests don't look at what is
+abbrev pub plain_context : Tables → ℕ → Context
+plain_context u m = context (code_of u) (routine_at u m)
+
+-- the outer variables that a block mentions
+abbrev pub uses_of : Tables → ℕ → Block → Vars
+uses_of u m b = uses (plain_context u m) (own_at u m b) (block_code_at u m b)
+
+-- the outer variables that a block assigns or consumes
+abbrev pub sets_of : Tables → ℕ → Block → Vars
+sets_of u m b = sets (plain_context u m) (own_at u m b) (block_code_at u m b)
+
+-- the mode, unless the par is refused
+abbrev pub mode_unless : Option TypeKind → ParMode → Result ParMode TypeKind
+mode_unless None mode = Ok mode
+mode_unless (Some k) mode = Err k
+
+-- the mode of two blocks side by side, or why they may not be
+abbrev pub par_mode_of : Tables → ℕ → Block → Block → Result ParMode TypeKind
+par_mode_of u m left right =
+    mode_unless
+    (refusal (plain_context u m) (par_head (plain_context u m) (own_at u m left) (block_code_at u m left) (own_at u m right) (block_code_at u m right)) (λ x. true))
+    (mode_of (plain_context u m) (uses_of u m left) (uses_of u m right))
+
+-- ---------- statements ----------
+-- the code of the one statement at a place
+abbrev pub stmt_code_at : Tables → ℕ → ℕ → Code
+stmt_code_at u m at = stmt_code (setting_at u m) at End
+
+-- from the live set G the statement s at a place goes to H
+abbrev pub StmtGoes : Tables → ℕ → ℕ → Stmt → Vars → Vars → Type 0
+StmtGoes u m at s G H = Goes (context_at u m s.span) (stmt_code_at u m at) G H
+
+-- the first refused part of the statement s at a place, which is entered with G
+abbrev pub stmt_refusal : Tables → ℕ → ℕ → Stmt → Vars → Option TypeError
+stmt_refusal u m at s G = first_refused (context_at u m s.span) (stmt_code_at u m at) G
+
+-- the live set, unless something is refused
+abbrev pub flow_unless : Option TypeError → Vars → Result Vars TypeError
+flow_unless None H = Ok H
+flow_unless (Some e) H = Err e
+
+-- the live set after the statement s at a place, or the first refusal within it
+abbrev pub flow_of : Tables → ℕ → ℕ → Stmt → Vars → Result Vars TypeError
+flow_of u m at s G = flow_unless (stmt_refusal u m at s G) (changed (effect (stmt_code_at u m at)) G)

@@ -1,0 +1,35 @@
+-- What the laws of the typing rules claim.
+use Rattle.std.specs.Prelude.{◌≡◌, ◌↔◌, ℕ, false, ◌&&◌, None, Ok}
+use Rattle.perm_tree.specs.declared.ast.Stmt.{Stmt}
+use Rattle.perm_tree.specs.Code.{Code, UnitCode}
+use Rattle.perm_tree.specs.UnitTables.{Tables}
+use Rattle.perm_tree.specs.Vars.{Vars, IsWithin}
+use Rattle.perm_rules.specs.Parts.{Context}
+use Rattle.perm_rules.specs.Effects.{effect, changed}
+use Rattle.perm_rules.specs.Goes.{Goes, IsAccepted}
+use Rattle.perm_rules.specs.FirstRefused.{first_refused, unit_refusal}
+use Rattle.perm_rules.specs.AtPlace.{StmtGoes, flow_of}
+
+-- a code that goes from a live set goes to that without what its effect loses, with what it makes
+abbrev pub GoesByEffect : Type 0
+GoesByEffect = (c : Context) (a : Code) (G H : Vars) → Goes c a G H → H ≡ changed (effect a) G
+
+-- the effect of a code that goes loses nothing that it makes
+abbrev pub LosesOrMakes : Type 0
+LosesOrMakes = (c : Context) (a : Code) (G H : Vars) → Goes c a G H → (x : ℕ) → ((effect a).lost x && (effect a).made x) ≡ false
+
+-- a code that goes from a live set goes from each larger one, to one that is no smaller
+abbrev pub GoesFromMore : Type 0
+GoesFromMore = (c : Context) (a : Code) (G H K : Vars) → IsWithin G K → Goes c a G H → (L : Vars) × Goes c a K L × IsWithin H L
+
+-- a code goes from a live set exactly where no part of it is refused
+abbrev pub GoesUnrefused : Type 0
+GoesUnrefused = (c : Context) (a : Code) (G : Vars) → ((H : Vars) × Goes c a G H) ↔ (first_refused c a G ≡ None)
+
+-- a unit is accepted exactly where no part of it is refused
+abbrev pub AcceptedUnrefused : Type 0
+AcceptedUnrefused = (u : UnitCode) → IsAccepted u ↔ (unit_refusal u ≡ None)
+
+-- a statement goes from a live set to another exactly where its flow gives that
+abbrev pub FlowGoes : Type 0
+FlowGoes = (u : Tables) (m at : ℕ) (s : Stmt) (G H : Vars) → StmtGoes u m at s G H ↔ (flow_of u m at s G ≡ Ok H)

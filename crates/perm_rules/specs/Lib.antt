@@ -1,0 +1,13 @@
+pub mod Parts
+pub mod Sorts
+pub mod Liveness
+pub mod Shapes
+pub mod Permissions
+pub mod Pars
+pub mod Refusals
+pub mod Effects
+pub mod Goes
+pub mod FirstRefused
+pub mod InBody
+pub mod AtPlace
+pub mod Laws

@@ -1,0 +1,17 @@
+//! Laws of the typing rules. A law does nothing: its contract is the claim.
+
+ghost use Rattle.perm_rules.specs.Laws.{GoesByEffect, LosesOrMakes, GoesFromMore, GoesUnrefused, AcceptedUnrefused, FlowGoes};
+
+/// What goes is told by effects, and a larger live set stays larger.
+pub fn effects()
+    ensures by_effect { GoesByEffect }
+    ensures clear { LosesOrMakes }
+    ensures monotone { GoesFromMore }
+{}
+
+/// What goes is what isn't refused.
+pub fn refusals()
+    ensures code { GoesUnrefused }
+    ensures unit { AcceptedUnrefused }
+    ensures flow { FlowGoes }
+{}
