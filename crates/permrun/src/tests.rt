@@ -1,0 +1,114 @@
+//! Runs of the top call over files and output in memory.
+
+use crate::run::run_words;
+use perm_base::{MemFile, MemShelf, MemSink};
+use std::alloc::{AllocError, Global};
+use std::test::Fail;
+
+const POINT: &str =
+    "class Main {\n  long x;\n  long y;\n  long Run(immutable long[] input) writable {\n    isolated Main p = new Main();\n    p.x = 3;\n    p.y = 4;\n    long a = p.x;\n    long b = p.y;\n    print a + b;\n    return 0;\n  }\n}\n";
+
+const LIST: &str =
+    "class Cell {\n  long value;\n  writable Cell next;\n  long Total() readable {\n    long s = this.value;\n    readable Cell n = this.next;\n    if (n == null) {\n    } else {\n      long t = n.Total();\n      s = s + t;\n    }\n    return s;\n  }\n}\nclass Main {\n  immutable Cell list;\n  long Run(immutable long[] input) writable {\n    immutable Cell c = recover {\n      writable Cell head = null;\n      long i = 0;\n      long n = input.Length;\n      while (i < n) {\n        writable Cell k = new Cell();\n        long v = input[i];\n        k.value = v;\n        k.next = head;\n        head = k;\n        i = i + 1;\n      }\n      readable Cell r = head;\n      give r;\n    };\n    this.list = c;\n    long total = c.Total();\n    print total;\n    return total;\n  }\n}\n";
+
+const USAGE: &str =
+    "usage: permrun [--check] [--workers N] [--turns N] [--heap N] [--dump] [--stats] (PROGRAM [INPUT] | --make SIZE [--from N])\n";
+
+/// A shelf with one file, under the path `p`, of which these calls fail.
+fn shelf_with(alloc: Global, bytes: &[u8], fail: &[u64]) -> Result<MemShelf, AllocError> {
+    let mut files = Vec::new(alloc);
+    files.push(MemFile {
+        path: String::from_str(alloc, "p")?,
+        bytes: bytes.to_vec(alloc)?,
+    })?;
+    Ok(MemShelf {
+        files,
+        fail: fail.to_vec(alloc)?,
+        calls: 0,
+        faults: 0,
+    })
+}
+
+/// The text that a call writes, behind its status on a line of its own.
+fn answer_of(alloc: Global, words: &[&str], shelf: &mut MemShelf) -> Result<String, Fail> {
+    let mut sink = MemSink::new(alloc, 1000, 1000, Vec::new(alloc))?;
+    let status = run_words(alloc, words, shelf, &mut sink)?;
+    let text = String::from_utf8_lossy(alloc, sink.taken.as_slice())?;
+    Ok(format!(in alloc; "{status}\n{text}")?)
+}
+
+#[test]
+fn a_straight_program_runs(rt: HostRuntime) -> Result<(), Fail> {
+    let mut shelf = shelf_with(rt.alloc(), POINT.as_bytes(), &[])?;
+    let answer = answer_of(rt.alloc(), &["p"], &mut shelf)?;
+    assert_eq!(rt; answer.as_str(), "0\n7\ndone 0\n");
+    Ok(())
+}
+
+#[test]
+fn other_programs_are_unbuilt(rt: HostRuntime) -> Result<(), Fail> {
+    for text in [LIST, "", "class Main {", "{}();=+", "\u{0}\u{1f600}"] {
+        let mut shelf = shelf_with(rt.alloc(), text.as_bytes(), &[])?;
+        let answer = answer_of(rt.alloc(), &["p"], &mut shelf)?;
+        assert_eq!(rt; answer.as_str(), "9\nunbuilt\n", "at {text:?}");
+    }
+    Ok(())
+}
+
+#[test]
+fn random_bytes_are_unbuilt(rt: HostRuntime) -> Result<(), Fail> {
+    let mut state = 1u64;
+    for _ in 0..200 {
+        let mut text = Vec::new(rt.alloc());
+        for _ in 0..64 {
+            state = state
+                .wrapping_mul(6_364_136_223_846_793_005)
+                .wrapping_add(1_442_695_040_888_963_407);
+            text.push((state >> 56) as u8)?;
+        }
+        let mut shelf = shelf_with(rt.alloc(), text.as_slice(), &[])?;
+        let answer = answer_of(rt.alloc(), &["p"], &mut shelf)?;
+        assert_eq!(rt; answer.as_str(), "9\nunbuilt\n");
+    }
+    Ok(())
+}
+
+#[test]
+fn words_that_name_no_program_get_the_usage(rt: HostRuntime) -> Result<(), Fail> {
+    let lists: [&[&str]; 4] = [&[], &["p", "p"], &["-p"], &["--check"]];
+    for words in lists {
+        let mut shelf = shelf_with(rt.alloc(), POINT.as_bytes(), &[])?;
+        let answer = answer_of(rt.alloc(), words, &mut shelf)?;
+        let usage = format!(in rt.alloc(); "2\n{USAGE}")?;
+        assert_eq!(rt; answer.as_str(), usage.as_str());
+    }
+    Ok(())
+}
+
+#[test]
+fn files_that_are_not_read(rt: HostRuntime) -> Result<(), Fail> {
+    let alloc = rt.alloc();
+    let mut failing = shelf_with(alloc, POINT.as_bytes(), &[2])?;
+    let answer = answer_of(alloc, &["p"], &mut failing)?;
+    assert_eq!(rt; answer.as_str(), "3\nread fault program\n");
+    let missing = answer_of(alloc, &["q"], &mut failing)?;
+    assert_eq!(rt; missing.as_str(), "3\nread fault program\n");
+    let mut long = shelf_with(alloc, vec![in alloc; b' '; 1_048_577]?.as_slice(), &[])?;
+    let answer = answer_of(alloc, &["p"], &mut long)?;
+    assert_eq!(rt; answer.as_str(), "4\ntoo long program\n");
+    let mut blank = shelf_with(alloc, vec![in alloc; b' '; 1_048_576]?.as_slice(), &[])?;
+    let answer = answer_of(alloc, &["p"], &mut blank)?;
+    assert_eq!(rt; answer.as_str(), "9\nunbuilt\n");
+    Ok(())
+}
+
+#[test]
+fn a_write_that_fails_leaves_the_front(rt: HostRuntime) -> Result<(), Fail> {
+    let alloc = rt.alloc();
+    let mut shelf = shelf_with(alloc, POINT.as_bytes(), &[])?;
+    let mut sink = MemSink::new(alloc, 1000, 3, [2].to_vec(alloc)?)?;
+    let status = run_words(alloc, &["p"], &mut shelf, &mut sink)?;
+    assert_eq!(rt; status, 5);
+    assert_eq!(rt; sink.taken.as_slice(), b"7\nd".as_slice());
+    Ok(())
+}
