@@ -1,0 +1,17 @@
+pub mod Values
+pub mod Expressions
+pub mod Names
+pub mod Objects
+pub mod Machine
+pub mod Steps
+pub mod Effects
+pub mod Custody
+pub mod Turns
+pub mod NamedHeap
+pub mod Meaning
+pub mod Outcome
+pub mod Words
+pub mod Relate
+pub mod Layout
+pub mod OneShape
+pub mod Claims

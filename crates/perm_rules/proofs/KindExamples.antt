@@ -1,6 +1,6 @@
 -- Small programs for the kinds of refusal, and for what is allowed beside them.
 use Prim.Native.String.{String}
-use Rattle.std.specs.Prelude.{◌≡◌, true, List, [], ◌∷◌, refl}
+use Rattle.std.specs.Prelude.{◌≡◌, true, List, [], ◌∷◌, refl, codes}
 use Rattle.perm_tree.specs.declared.ast.Perm.{Perm}
 use Rattle.perm_tree.specs.declared.ast.Perm.TheVariants.{Isolated, Immutable, Readable, Writable}
 use Rattle.perm_tree.specs.declared.ast.BinaryOp.TheVariants.{Plus, Equal}
@@ -8,7 +8,7 @@ use Rattle.perm_tree.specs.declared.errors.TypeKind.TheVariants.{UnknownName, Wr
 use Rattle.perm_tree.specs.declared.ast.Rhs.{Rhs}
 use Rattle.perm_tree.proofs.Builder.{Writes, Line, Source, class, field, «method», param, long, bool, ref, num, truth, null, var, binary, negative, value, consume, call, call_consumed, declare, init, assign, expr, consumed, get, take, get_item, new, new_array, result_of, init_recover, assign_recover, set_field, set_item, run, print, if_only, if_else, par}
 use Rattle.perm_tree.proofs.Programs.{run_method}
-use Rattle.perm_rules.proofs.Verdicts.{Verdict, verdict, Accepted, Refused}
+use Rattle.perm_rules.proofs.Verdicts.{Verdict, verdict, refused_text, Accepted, Refused}
 
 -- a class with a field of each permission, and methods with each kind of receiver
 abbrev box : Writes (Unit {0})
@@ -348,3 +348,16 @@ pars-4 = refl
 -- `readable Box r = w; par { long k = r.n; } { long l = r.n; }`
 pars-5 : told (init_box Readable "r" (expr (var "w")) ∷ par (init long "k" (get "r" "n") ∷ []) (init long "l" (get "r" "n") ∷ []) ∷ []) ≡ Accepted
 pars-5 = refl
+
+-- ---------- what the span of a refusal holds ----------
+-- of a recover block its head, up to the keyword
+recover-text : refused_text (with_lines (init_recover long "z" [] "b" ∷ [])) ≡ codes "long z = recover"
+recover-text = refl
+
+-- and its `give` with the semicolon
+give-text : refused_text (with_lines (recovered Isolated [] "w" ∷ [])) ≡ codes "give w;"
+give-text = refl
+
+-- of a method its `return`
+return-text : refused_text (class "Main" (run_method [] (truth true) ∷ []) ∷ []) ≡ codes "return true;"
+return-text = refl

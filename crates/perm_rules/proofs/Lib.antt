@@ -9,3 +9,5 @@ pub mod PartLaws
 pub mod Fine
 pub mod Agree
 pub mod RefusalLaws
+pub mod Sequences
+pub mod KnownOnly

@@ -16,7 +16,8 @@ use Rattle.perm_rules.specs.Liveness.{dead, after, after_argument, after_argumen
 use Rattle.perm_rules.specs.Shapes.{lacks_member}
 use Rattle.perm_rules.specs.Refusals.{applies, kinds, IsAllowed}
 use Rattle.perm_rules.specs.Effects.{changed, instruction_effect}
-use Rattle.perm_rules.proofs.Truth.{implies, implies-at, implies-from, table2, table3}
+use Rattle.perm_perm.proofs.OverAll.{implies, implies-at}
+use Rattle.perm_rules.proofs.Truth.{implies-from, table2, table3}
 use Rattle.perm_rules.proofs.SetLaws.{IsClear, from_test, lost_changed, clear_none, clear_minus}
 
 -- ---------- kinds ----------

@@ -8,9 +8,9 @@ use Rattle.perm_tree.specs.Vars.{Vars, minus, IsWithin}
 use Rattle.perm_rules.specs.Parts.{Context, Simple, Condition, RecoverHead, Given, Returned}
 use Rattle.perm_rules.specs.Pars.{par_head}
 use Rattle.perm_rules.specs.Refusals.{refusal}
-use Rattle.perm_rules.specs.Effects.{changed, effect, instruction_effect, block_effect}
+use Rattle.perm_rules.specs.Effects.{changed, effect, instruction_effect, block_effect, either, both, repeated}
 use Rattle.perm_rules.specs.Goes.{Goes, hiding, context, first_live, HaveDerivations}
-use Rattle.perm_rules.specs.FirstRefused.{Entry, entries, error_or, first_error, first_refused, method_refusal, or_later, methods_refusal}
+use Rattle.perm_rules.specs.FirstRefused.{Entry, entry, entries, error_or, first_error, first_refused, method_refusal, or_later, methods_refusal}
 use Rattle.perm_rules.specs.AtPlace.{context_at, stmt_code_at, flow_unless}
 use Rattle.perm_rules.specs.Laws.{GoesByEffect, LosesOrMakes, GoesFromMore, GoesUnrefused, AcceptedUnrefused, FlowGoes}
 use Rattle.perm_rules.proofs.SetLaws.{changed_within, lost_changed}
@@ -54,32 +54,53 @@ none-append xs ys e f = first_error-append xs ys ∙ or_later-both (first_error 
 rest_as : (c : Context) (rest : Code) (G K : Vars) → G ≡ K → IsFine c rest G → IsFine c rest K
 rest_as c rest G K e f = subst (λ (M : Vars). IsFine c rest M) e f
 
+-- an entry and what comes behind it
+entry-none : (x : Entry) (xs : List Entry) → first_error (x ∷ xs) ≡ None → (refusal x.context x.part x.live ≡ None) × (first_error xs ≡ None)
+entry-none x xs h = error_or-none x.at (refusal x.context x.part x.live) (first_error xs) h
+
+-- a head, the entries of its block, and the rest
+block-none : (x : Entry) (xs rest : List Entry) → first_error (x ∷ (xs ++ rest)) ≡ None
+    → (refusal x.context x.part x.live ≡ None) × (first_error xs ≡ None) × (first_error rest ≡ None)
+block-none x xs rest h =
+    let q = entry-none x (xs ++ rest) h in
+    let r = append-none xs rest q.1 in
+    (q.0, r.0, r.1)
+
+-- the same with two blocks
+blocks-none : (x : Entry) (xs ys rest : List Entry) → first_error (x ∷ (xs ++ (ys ++ rest))) ≡ None
+    → (refusal x.context x.part x.live ≡ None) × (first_error xs ≡ None) × (first_error ys ≡ None) × (first_error rest ≡ None)
+blocks-none x xs ys rest h =
+    let q = block-none x xs (ys ++ rest) h in
+    let r = append-none ys rest q.2 in
+    (q.0, q.1, r.0, r.1)
+
 pub fine_unrefused : (c : Context) (a : Code) (G : Vars) → first_refused c a G ≡ None → IsFine c a G
 fine_unrefused c End G h = tt
-fine_unrefused c (Give at w x) G h = (error_or-none at (refusal c (Given w x) G) None h).0
-fine_unrefused c (Return at a) G h = (error_or-none at (refusal c (Returned a) G) None h).0
+fine_unrefused c (Give at w x) G h = (entry-none (entry c at (Given w x) G) [] h).0
+fine_unrefused c (Return at a) G h = (entry-none (entry c at (Returned a) G) [] h).0
 fine_unrefused c (Do at i rest) G h =
-    let q = error_or-none at (refusal c (Simple i) G) _ h in
+    let q = entry-none (entry c at (Simple i) G) (entries c rest (changed (instruction_effect i) G)) h in
     (q.0, fine_unrefused c rest (changed (instruction_effect i) G) q.1)
 fine_unrefused c (If at e own1 a own2 b rest) G h =
-    let q = error_or-none at (refusal c (Condition e) G) _ h in
-    let r = append-none (entries c a G) _ q.1 in
-    let s = append-none (entries c b G) _ r.1 in
-    (q.0, fine_unrefused c a G r.0, fine_unrefused c b G s.0, fine_unrefused c rest _ s.1)
+    let q = blocks-none (entry c at (Condition e) G) (entries c a G) (entries c b G) (entries c rest (changed (either (block_effect own1 a) (block_effect own2 b)) G)) h in
+    (q.0, fine_unrefused c a G q.1, fine_unrefused c b G q.2, fine_unrefused c rest (changed (either (block_effect own1 a) (block_effect own2 b)) G) q.3)
 fine_unrefused c (While at e own body rest) G h =
-    let K : Vars = minus G (block_effect own body).lost in
-    let q = error_or-none at (refusal c (Condition e) K) _ h in
-    let r = append-none (entries c body K) _ q.1 in
-    (q.0, fine_unrefused c body K r.0, rest_as c rest K _ (lost_changed (block_effect own body).lost G) (fine_unrefused c rest K r.1))
+    let q =
+    block-none (entry c at (Condition e) (minus G (block_effect own body).lost)) (entries c body (minus G (block_effect own body).lost))
+    (entries c rest (minus G (block_effect own body).lost)) h in (
+      q.0,
+      fine_unrefused c body (minus G (block_effect own body).lost) q.1,
+      rest_as c rest (minus G (block_effect own body).lost) (changed (repeated (block_effect own body)) G) (lost_changed (block_effect own body).lost G)
+          (fine_unrefused c rest (minus G (block_effect own body).lost) q.2),
+    )
 fine_unrefused c (Par at own1 a own2 b rest) G h =
-    let q = error_or-none at (refusal c (par_head c own1 a own2 b) G) _ h in
-    let r = append-none (entries c a G) _ q.1 in
-    let s = append-none (entries c b G) _ r.1 in
-    (q.0, fine_unrefused c a G r.0, fine_unrefused c b G s.0, fine_unrefused c rest _ s.1)
+    let q =
+    blocks-none (entry c at (par_head c own1 a own2 b) G) (entries c a G) (entries c b G)
+    (entries c rest (changed (both (block_effect own1 a) (block_effect own2 b)) G)) h in
+    (q.0, fine_unrefused c a G q.1, fine_unrefused c b G q.2, fine_unrefused c rest (changed (both (block_effect own1 a) (block_effect own2 b)) G) q.3)
 fine_unrefused c (Recover at x own hides body rest) G h =
-    let q = error_or-none at (refusal c (RecoverHead x) G) _ h in
-    let r = append-none (entries (hiding hides c) body G) _ q.1 in
-    (q.0, fine_unrefused (hiding hides c) body G r.0, fine_unrefused c rest _ r.1)
+    let q = block-none (entry c at (RecoverHead x) G) (entries (hiding hides c) body G) (entries c rest (changed (block_effect own body) G)) h in
+    (q.0, fine_unrefused (hiding hides c) body G q.1, fine_unrefused c rest (changed (block_effect own body) G) q.2)
 
 pub unrefused_fine : (c : Context) (a : Code) (G : Vars) → IsFine c a G → first_refused c a G ≡ None
 unrefused_fine c End G h = refl

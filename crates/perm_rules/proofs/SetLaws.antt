@@ -7,7 +7,8 @@ use mathlib.Core.Path.{fun_ext}
 use Rattle.perm_tree.specs.Vars.{Vars, none, plus, minus, meet, IsWithin}
 use Rattle.perm_rules.specs.Effects.{Effect, changed, no_effect, then, either, both}
 use Rattle.perm_rules.specs.Goes.{joined}
-use Rattle.perm_rules.proofs.Truth.{implies, implies-at, implies-from, beq-true, table2, table3, table4, table5, same_bool}
+use Rattle.perm_perm.proofs.OverAll.{implies, implies-at}
+use Rattle.perm_rules.proofs.Truth.{implies-from, beq-true, table2, table3, table4, table5, same_bool}
 
 -- the sets have no variable in common
 abbrev pub IsApart : Vars → Vars → Type 0

@@ -1,7 +1,8 @@
 -- Laws of truth values, by a test over all of them that the checker computes.
-use Rattle.std.specs.Prelude.{◌≡◌, Bool, true, false, not, ◌&&◌, ◌||◌, refl}
+use Rattle.std.specs.Prelude.{◌≡◌, Bool, true, false, ◌&&◌, refl}
 use Rattle.std.proofs.lemmas.Bool.{and_parts}
 use mathlib.Core.Bool.{beq}
+use Rattle.perm_perm.proofs.OverAll.{implies}
 
 -- the test holds of both
 abbrev pub each : (Bool → Bool) → Bool
@@ -10,13 +11,6 @@ each f = f true && f false
 pub each-at : (f : Bool → Bool) → each f ≡ true → (b : Bool) → f b ≡ true
 each-at f h true = (and_parts (f true) (f false) h).0
 each-at f h false = (and_parts (f true) (f false) h).1
-
-abbrev pub implies : Bool → Bool → Bool
-implies a b = not a || b
-
-pub implies-at : (a b : Bool) → implies a b ≡ true → a ≡ true → b ≡ true
-implies-at true b h e = h
-implies-at false b h e = cc
 
 pub implies-from : (a b : Bool) → (a ≡ true → b ≡ true) → implies a b ≡ true
 implies-from true b f = f refl

@@ -1,5 +1,5 @@
 -- Programs that are accepted, and programs that are refused, by computation.
-use Rattle.std.specs.Prelude.{◌≡◌, ℕ, Option, Some, None, refl}
+use Rattle.std.specs.Prelude.{◌≡◌, ℕ, Option, Some, None, refl, List, [], take, drop, codes, ◌-◌}
 use Rattle.perm_tree.specs.declared.errors.TypeKind.{TypeKind}
 use Rattle.perm_tree.specs.declared.errors.TypeKind.TheVariants.{Gone, NeedsConsume, Hidden, ParShared, ParPermission}
 use Rattle.perm_tree.specs.declared.errors.TypeError.{TypeError}
@@ -113,3 +113,27 @@ p6-refused = refl
 -- an argument consumes the receiver, which is looked at after it
 p7-refused : verdict p7 ≡ Refused Gone 9 5
 p7-refused = refl
+
+-- ---------- what the span of a refusal holds ----------
+abbrev stretch : Source → Option TypeError → List ℕ
+stretch s None = []
+stretch s (Some e) = take (e.span.end - e.span.start) (drop e.span.start (text_of s))
+
+-- the text that is refused
+abbrev pub refused_text : Source → List ℕ
+refused_text s = stretch s (unit_refusal (code_of (unit s)))
+
+-- a simple statement with its semicolon
+p6-text : refused_text p6 ≡ codes "w.other = r;"
+p6-text = refl
+
+p4_read-text : refused_text p4_read ≡ codes "isolated Child d = this.child;"
+p4_read-text = refl
+
+-- of a loop its head, up to the bracket
+p5_test-text : refused_text p5_test ≡ codes "while (b != null)"
+p5_test-text = refl
+
+-- of a par its keyword
+p4_both-text : refused_text p4_both ≡ codes "par"
+p4_both-text = refl

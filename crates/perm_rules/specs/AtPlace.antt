@@ -79,6 +79,7 @@ abbrev pub context_at : Tables → ℕ → Span → Context
 context_at u m at = hiding (hidden_at u m at) (context (code_of u) (routine_at u m))
 
 -- ---------- blocks ----------
+-- the code of a block
 abbrev pub block_code_at : Tables → ℕ → Block → Code
 block_code_at u m b = block_code (setting_at u m) b.stmts End
 

@@ -1,10 +1,10 @@
 -- What the laws of the typing rules claim.
-use Rattle.std.specs.Prelude.{◌≡◌, ◌↔◌, ℕ, false, ◌&&◌, None, Ok}
+use Rattle.std.specs.Prelude.{◌≡◌, ◌↔◌, ℕ, false, ◌&&◌, None, Ok, is_none}
 use Rattle.perm_tree.specs.declared.ast.Stmt.{Stmt}
 use Rattle.perm_tree.specs.Code.{Code, UnitCode}
 use Rattle.perm_tree.specs.UnitTables.{Tables}
 use Rattle.perm_tree.specs.Vars.{Vars, IsWithin}
-use Rattle.perm_rules.specs.Parts.{Context}
+use Rattle.perm_rules.specs.Parts.{Context, type_of}
 use Rattle.perm_rules.specs.Effects.{effect, changed}
 use Rattle.perm_rules.specs.Goes.{Goes, IsAccepted}
 use Rattle.perm_rules.specs.FirstRefused.{first_refused, unit_refusal}
@@ -33,3 +33,11 @@ AcceptedUnrefused = (u : UnitCode) → IsAccepted u ↔ (unit_refusal u ≡ None
 -- a statement goes from a live set to another exactly where its flow gives that
 abbrev pub FlowGoes : Type 0
 FlowGoes = (u : Tables) (m at : ℕ) (s : Stmt) (G H : Vars) → StmtGoes u m at s G H ↔ (flow_of u m at s G ≡ Ok H)
+
+-- two live sets have the same known variables
+abbrev pub AgreeOnKnown : Context → Vars → Vars → Type 0
+AgreeOnKnown c G H = (x : ℕ) → is_none (type_of c x) ≡ false → G x ≡ H x
+
+-- what is first refused of a code depends on the live set only in its known variables
+abbrev pub RefusedByKnown : Type 0
+RefusedByKnown = (c : Context) (a : Code) (G H : Vars) → AgreeOnKnown c G H → first_refused c a G ≡ first_refused c a H

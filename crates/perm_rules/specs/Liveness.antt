@@ -10,6 +10,7 @@ abbrev pub dead : Vars → Vars
 dead G x = not (G x)
 
 -- ---------- the live set after ----------
+-- what an argument consumes is no longer live
 abbrev pub after_argument : Argument → Vars → Vars
 after_argument a G = minus G (argument_consumes a)
 

@@ -3,10 +3,11 @@ use Rattle.std.specs.Prelude.{ℕ, Bool, true, false, not, ◌&&◌, ◌||◌, L
 use Rattle.perm_tree.specs.Code.{Instruction, Declare, Code, End, Give, Return, Do, If, While, Par, Recover}
 use Rattle.perm_tree.specs.CodeOf.{is_tied}
 use Rattle.perm_tree.specs.Mentions.{argument_consumes, consumes, assigns, block_mentions, block_writes, known}
+use Rattle.perm_tree.specs.Names.{is_writable}
 use Rattle.perm_tree.specs.Vars.{Vars, none, just, those, plus, meet, some_below}
 use Rattle.perm_rules.specs.declared.ParMode.{ParMode}
 use Rattle.perm_rules.specs.declared.ParMode.TheVariants.{Symmetric, LeftAlone, RightAlone}
-use Rattle.perm_rules.specs.Parts.{Context, Part, ParHead, type_of, if_known, if_reference, has_isolated, is_writable}
+use Rattle.perm_rules.specs.Parts.{Context, Part, ParHead, type_of, if_known, if_reference, has_isolated}
 
 -- the known outer variables that stand anywhere in a block, which declares own itself; an assigned variable included
 abbrev pub uses : Context → List ℕ → Code → Vars
@@ -49,7 +50,7 @@ isolated_vars c x = has_isolated (type_of c x)
 abbrev pub writable_vars : Context → Vars
 writable_vars c x = if_reference (type_of c x) is_writable
 
--- the readable and writable ones
+-- the readable and writable variables of the method
 abbrev pub tied_vars : Context → Vars
 tied_vars c x = if_known (type_of c x) is_tied
 
@@ -83,6 +84,6 @@ mode_by false left_can = Symmetric
 mode_by true true = LeftAlone
 mode_by true false = RightAlone
 
--- neither stands alone where no writable variable stands in the blocks; else the left one does if it can
+-- symmetric where no writable variable stands in the blocks; else the left one alone stands alone if it can, and otherwise the right one
 abbrev pub mode_of : Context → Vars → Vars → ParMode
 mode_of c u1 u2 = mode_by (has_writable c u1 || has_writable c u2) (can_stand_alone c u1)

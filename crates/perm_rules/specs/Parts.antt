@@ -1,7 +1,7 @@
 -- The parts of a method, what they are checked by, and the types of variables and fields.
 use Rattle.std.specs.Prelude.{ℕ, Bool, true, false, not, ◌||◌, List, Option, Some, None, slice_get}
 use Rattle.perm_tree.specs.declared.ast.Perm.{Perm}
-use Rattle.perm_tree.specs.declared.ast.Perm.TheVariants.{Isolated, Writable}
+use Rattle.perm_tree.specs.declared.ast.Perm.TheVariants.{Isolated}
 use Rattle.perm_tree.specs.declared.ast.Shape.TheVariants.{Class, Array}
 use Rattle.perm_tree.specs.declared.ast.Ty.{Ty}
 use Rattle.perm_tree.specs.declared.ast.Ty.TheVariants.{Ref}
@@ -70,18 +70,16 @@ if_reference (Some (Ref p k)) test = test p
 if_reference _ test = false
 
 -- ---------- tests of permissions and types ----------
+-- the permission is isolated
 abbrev pub is_isolated : Perm → Bool
 is_isolated Isolated = true
 is_isolated _ = false
-
-abbrev pub is_writable : Perm → Bool
-is_writable Writable = true
-is_writable _ = false
 
 -- the type is known to be isolated
 abbrev pub has_isolated : Option Ty → Bool
 has_isolated t = if_reference t is_isolated
 
+-- a reference, whatever its shape
 abbrev pub is_reference : Ty → Bool
 is_reference (Ref p k) = true
 is_reference _ = false

@@ -94,7 +94,7 @@ may_change _ = false
 abbrev pub may_lend : Context → List Argument → Routine → Bool
 may_lend c args r = list_all (is_harmless (type_of c)) args && not (is_tied r.result)
 
--- a lending call isn't allowed, whose method doesn't keep its receiver
+-- a call lends what it may not lend; where the method keeps its receiver, a consume is needed instead
 abbrev pub call_barred : Context → Tie → List Argument → Option Routine → Bool
 call_barred c Lends args (Some r) = not (keeps_receiver r.receiver) && not (may_lend c args r)
 call_barred c _ args _ = false
@@ -148,7 +148,7 @@ call_weak c into tie y args None = false
 call_weak c into tie y args (Some r) =
     arguments_weak c args r.params || (receiver_weak tie (type_of c y) r.receiver || weak (Some (call_type tie r.result)) (taker_type c into))
 
--- what is given is raised
+-- a given value is raised, and then has the shape of the variable that takes it and too weak a permission
 abbrev pub raised_weak : Ty → Ty → Bool
 raised_weak t u = is_too_weak (raised_type t) u
 

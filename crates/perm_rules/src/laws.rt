@@ -1,6 +1,6 @@
 //! Laws of the typing rules. A law does nothing: its contract is the claim.
 
-ghost use Rattle.perm_rules.specs.Laws.{GoesByEffect, LosesOrMakes, GoesFromMore, GoesUnrefused, AcceptedUnrefused, FlowGoes};
+ghost use Rattle.perm_rules.specs.Laws.{GoesByEffect, LosesOrMakes, GoesFromMore, GoesUnrefused, AcceptedUnrefused, FlowGoes, RefusedByKnown};
 
 /// What goes is told by effects, and a larger live set stays larger.
 pub fn effects()
@@ -14,4 +14,5 @@ pub fn refusals()
     ensures code { GoesUnrefused }
     ensures unit { AcceptedUnrefused }
     ensures flow { FlowGoes }
+    ensures known { RefusedByKnown }
 {}

@@ -3,7 +3,7 @@
 
 pub mod laws;
 
-/// Which side of a par stands alone. In `Symmetric` neither may change what was there before the par. The side that stands alone has no variable through which it shares anything, and the other one goes on in its parent's place.
+/// Which sides of a par stand alone. In `Symmetric` no writable variable stands in the blocks, and both do. Else only the named one does, whose outer variables are isolated, immutable, `long` or `bool`, and the other goes on with all that their parent has.
 #[derive(Clone, Copy, Debug, PartialEq, Eq)]
 pub enum ParMode {
     Symmetric,

@@ -1,0 +1,2 @@
+//! The dump of a heap, and when two heaps have one shape.
+#![tactic(auto)]

@@ -1,0 +1,6 @@
+pub mod Schedules
+mod Interleavings
+pub mod PictureTest
+pub mod RegionPrograms
+mod Pictures
+mod WordRuns

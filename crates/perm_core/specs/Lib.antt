@@ -1,0 +1,12 @@
+pub mod Core
+pub mod WordCore
+pub mod Shows
+pub mod Endings
+pub mod Marked
+pub mod Whole
+pub mod Regions
+pub mod Picture
+pub mod NextPicture
+pub mod Bag
+pub mod Pieces
+pub mod Claims
