@@ -4,3 +4,5 @@ pub mod PictureTest
 pub mod RegionPrograms
 mod Pictures
 mod WordRuns
+mod Shortages
+mod ShownRuns

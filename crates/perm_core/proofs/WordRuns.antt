@@ -1,12 +1,13 @@
 -- Runs of the core on words come to what those on names do, by computation.
 use Rattle.std.specs.Prelude.{◌≡◌, ℕ, zero, suc, Bool, true, false, ℤ, pos, List, [], ◌∷◌, map, Option, Some, None, slice_get, find, is_some, refl}
 use Rattle.perm_tree.specs.Code.{UnitCode, Routine}
-use Rattle.perm_tree.proofs.Builder.{Source}
+use Rattle.perm_tree.proofs.Builder.{Source, text_of, place_in}
 use Rattle.perm_tree.proofs.Programs.{p2, p12}
 use Rattle.perm_tree.proofs.ParPrograms.{p3, p4, p11}
-use Rattle.perm_meaning.specs.Machine.{Leaf, Fork, Way, Here, GoL, GoR, Failure, NoTurns, Final, GaveBack, Failed, final}
+use Rattle.perm_meaning.specs.Machine.{Leaf, Fork, Way, Here, GoL, GoR, Failure, Trapped, NoTurns, Final, GaveBack, Failed, final}
 use Rattle.perm_meaning.proofs.Shown.{code}
 use Rattle.perm_core.specs.WordCore.{Task, State, step, opening_state}
+use Rattle.perm_core.proofs.RegionPrograms.{moving_regions, failing_regions}
 use Rattle.perm_core.proofs.Schedules.{Policy, LeftFirst, RightFirst, InTurn, prefers_left, next_policy, in_order}
 
 abbrev ways : Bool → Task → List Way
@@ -69,3 +70,17 @@ tree_summed = refl
 -- the empty input, Main, the leaf, and the two objects of the ring
 ring_words : left_words p12 [] 7 LeftFirst ≡ 0 ∷ 4 ∷ 9 ∷ 6 ∷ 3 ∷ 4 ∷ 3 ∷ []
 ring_words = refl
+
+moving_left : word_run moving_regions [] 1000 200 LeftFirst ≡ Gives 4 [] 930 57
+moving_left = refl
+
+moving_in_turn : word_run moving_regions [] 1000 200 (InTurn false) ≡ Gives 4 [] 930 57
+moving_in_turn = refl
+
+-- the line and the column of the trap in which a run on words ends, and the turns left
+abbrev trap_place : Source → WordEnd → (ℕ × ℕ) × ℕ
+trap_place s (Fails (Trapped k at) printed left given) = (place_in (text_of s) at.start, left)
+trap_place s _ = ((0, 0), 0)
+
+failing_right : trap_place failing_regions (word_run failing_regions [] 1000 200 RightFirst) ≡ ((54, 7), 978)
+failing_right = refl

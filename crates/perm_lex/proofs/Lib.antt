@@ -1,0 +1,11 @@
+pub mod Answers
+pub mod Comments
+pub mod Digits
+pub mod Lexemes
+pub mod Refusals
+pub mod Runs
+pub mod Spellings
+pub mod Total
+pub mod Unique
+pub mod Walk
+pub mod Writing
