@@ -2,7 +2,7 @@
 use Rattle.std.specs.Prelude.{ℕ, Bool, true, false, ℤ, List, [], ◌∷◌, slice_get, slice_set, Option, Some, None, option_and_then}
 use Rattle.perm_tree.specs.declared.ast.UnaryOp.{UnaryOp}
 use Rattle.perm_tree.specs.declared.ast.BinaryOp.{BinaryOp}
-use Rattle.perm_tree.specs.Code.{Term, LongLit, BoolLit, NullLit, Local, Unary, Binary}
+use Rattle.perm_tree.specs.Code.{Argument, Expression, Consumed, Term, LongLit, BoolLit, NullLit, Local, Unary, Binary}
 use Rattle.perm_meaning.specs.Values as values
 use Rattle.perm_meaning.specs.Values.{Value, Number, Truth, Null, Reference, Slot, Eval, Gives, Traps, Mistyped, Referred, ToNull, ToObject, NoReference}
 
@@ -134,3 +134,8 @@ module _ {V R : Type 0} (k : Reading V R) where
   eval (Local x) vs = look_up vs x
   eval (Unary op a) vs = then_unary op (eval a vs)
   eval (Binary op a b) vs = left_then_right op (eval a vs) (eval b vs)
+
+  -- the value of an argument that nothing comes after
+  abbrev pub value_of : Argument → List V → Eval V
+  value_of (Expression e) vs = eval e vs
+  value_of (Consumed y) vs = look_up vs y

@@ -3,9 +3,9 @@ use Rattle.std.specs.Prelude.{ℕ, zero, suc, ◌-◌, ◌/◌, Bool, true, fals
 use Rattle.perm_tree.specs.declared.ast.Span.{Span}
 use Rattle.perm_tree.specs.declared.errors.TrapKind.{TrapKind}
 use Rattle.perm_tree.specs.declared.errors.TrapKind.TheVariants.{StackOverflow}
-use Rattle.perm_tree.specs.Code.{Argument, Expression, Consumed, Code, End, Give, Return, Do, If, While, Par, Recover, UnitCode}
+use Rattle.perm_tree.specs.Code.{Code, End, Give, Return, Do, If, While, Par, Recover, UnitCode}
 use Rattle.perm_meaning.specs.Values.{Eval, Gives, Traps, Mistyped}
-use Rattle.perm_meaning.specs.Expressions.{tagged, assign, assign_into, look_up, clear, clear_all, eval}
+use Rattle.perm_meaning.specs.Expressions.{tagged, assign, assign_into, look_up, clear, clear_all, eval, value_of}
 use Rattle.perm_meaning.specs.Names.{Name, Mark, Side, OnLeft, OnRight, side_mark, after_par}
 use Rattle.perm_meaning.specs.Machine.{Blocks, Failure, Trapped, NoTurns, Final, Fine, GaveBack, Failed, join_final}
 use Rattle.perm_meaning.specs.Effects.{Act, GoesOn, Calls, Halts, Effect, Does, Sticks, choose, depth_limit, effect}
@@ -21,10 +21,11 @@ pub record Moment : Type 0 where
   pub own : Own
   pub heap : Heap
 
--- how code ends: it is done; it gives back a value; the branch fails, with the turns left, the printed numbers and the heap; the heap is full, which ends the whole run; or it is stuck
+-- how code ends: it is done; a method gives back a value; a recover block gives a value for the variable x; the branch fails, with the turns left, the printed numbers and the heap; the heap is full, which ends the whole run; or it is stuck
 pub data Result : Type 0 where
   Well : (m : Moment) → Result
   Gave : (v : Held) (m : Moment) → Result
+  Handed : (x : ℕ) (v : Held) (m : Moment) → Result
   Fails : (e : Failure) (turns : ℕ) (printed : List ℤ) (h : Heap) → Result
   Full : Result
   Stuck : Result
@@ -53,6 +54,7 @@ spend m go = from m.turns
 abbrev pub then_do : Result → (Moment → Result) → Result
 then_do (Well m) go = go m
 then_do (Gave v m) go = Stuck
+then_do (Handed x v m) go = Stuck
 then_do (Fails e t p h) go = Fails e t p h
 then_do Full go = Full
 then_do Stuck go = Stuck
@@ -60,6 +62,15 @@ then_do Stuck go = Stuck
 -- at the end of a block its own variables lose their values
 abbrev pub close : List ℕ → Result → Result
 close own r = then_do r (λ m. Well (set_vars m (clear_all tagged m.own.vars own)))
+
+-- at the end of a recover block its own variables lose their values, and the one that it gives a value for takes that
+abbrev pub recovered : List ℕ → Result → Result
+recovered own (Handed x v r) = Well (set_vars r (assign (clear_all tagged r.own.vars own) x v))
+recovered own (Gave v r) = Stuck
+recovered own (Well r) = Stuck
+recovered own (Fails e t p h) = Fails e t p h
+recovered own Full = Full
+recovered own Stuck = Stuck
 
 -- ---------- what is needed of values ----------
 -- go one of two ways by a truth value
@@ -79,11 +90,6 @@ on_value (Gives v) at m go = go v
 on_value (Traps t) at m go = trap at t m
 on_value Mistyped at m go = Stuck
 
--- the value of an argument, which nothing comes after
-abbrev pub value_of : Argument → List Held → Eval Held
-value_of (Expression e) vs = eval tagged e vs
-value_of (Consumed y) vs = look_up tagged vs y
-
 -- ---------- pars ----------
 -- a side's own part: one deeper, with the mark of that side, a copy of the variables, and nothing printed
 abbrev pub side_own : Side → Own → Own
@@ -101,6 +107,7 @@ right_of m h = record { turns = m.turns / 2; own = side_own OnRight m.own; heap 
 abbrev pub on_final : Result → (Final Held → Heap → Result) → Result
 on_final (Well m) go = go (Fine m.own.vars m.turns m.own.printed) m.heap
 on_final (Gave v m) go = Stuck
+on_final (Handed x v m) go = Stuck
 on_final (Fails e t p h) go = go (Failed e t p) h
 on_final Full go = Full
 on_final Stuck go = Stuck
@@ -118,9 +125,10 @@ par_of p m left right =
 
 module _ (u : UnitCode) (fits : ℕ → Bool) (again : Code → Moment → Result) where
   -- ---------- simple statements ----------
-  -- the caller's variables and method are back, and take the value that the method gives back
+  -- the caller's variables and method are back, one level up, and take the value that the method gives back
   abbrev pub returned : Own → Option ℕ → Result → Result
-  returned l into (Gave v r) = Well (record r { own = record r.own { vars = assign_into l.vars into v; routine = l.routine; depth = l.depth } })
+  returned l into (Gave v r) = Well (record r { own = record r.own { vars = assign_into l.vars into v; routine = l.routine; depth = r.own.depth - 1 } })
+  returned l into (Handed x v r) = Stuck
   returned l into (Well r) = Stuck
   returned l into (Fails e t p h) = Fails e t p h
   returned l into Full = Full
@@ -147,8 +155,8 @@ module _ (u : UnitCode) (fits : ℕ → Bool) (again : Code → Moment → Resul
   -- what code does, where a loop's next round and a method's code are again's
   abbrev pub does : Code → Moment → Result
   does End m = Well m
-  does (Give at w x) m = spend m (λ m. on_value (look_up tagged m.own.vars w) at m (λ v. Gave v (set_vars m (clear tagged m.own.vars w))))
-  does (Return at a) m = spend m (λ m. on_value (value_of a m.own.vars) at m (λ v. Gave v m))
+  does (Give at w x) m = spend m (λ m. on_value (look_up tagged m.own.vars w) at m (λ v. Handed x v (set_vars m (clear tagged m.own.vars w))))
+  does (Return at a) m = spend m (λ m. on_value (value_of tagged a m.own.vars) at m (λ v. Gave v m))
   does (Do at i rest) m = then_do (spend m (λ m. doing at (effect tagged u marks i m.own) m)) (does rest)
   does (If at e own1 a own2 b rest) m =
       then_do (spend m (λ m. on_test (eval tagged e m.own.vars) at m (λ m. close own1 (does a m)) (λ m. close own2 (does b m)))) (does rest)
@@ -156,16 +164,9 @@ module _ (u : UnitCode) (fits : ℕ → Bool) (again : Code → Moment → Resul
       spend m (λ m. on_test (eval tagged e m.own.vars) at m (λ m. then_do (close own (does body m)) (again (While at e own body rest))) (does rest))
   does (Par at own1 a own2 b rest) m =
       then_do (spend m (choose (nat_lt m.own.depth depth_limit)
-      (λ m. par_of (blocks own1 a own2 b) m (close own1 (does a (left_of m))) (λ h. close own2 (does b (right_of m h))))
+      (λ m. par_of (blocks own1 a own2 b) m (does a (left_of m)) (λ h. does b (right_of m h)))
       (trap at StackOverflow))) (does rest)
-  does (Recover at x own hides body rest) m = then_do (spend m (λ m. recovered x own (does body m))) (does rest)
-    where
-      recovered : ℕ → List ℕ → Result → Result
-      recovered x own (Gave v r) = Well (set_vars r (assign (clear_all tagged r.own.vars own) x v))
-      recovered x own (Well r) = Stuck
-      recovered x own (Fails e t p h) = Fails e t p h
-      recovered x own Full = Full
-      recovered x own Stuck = Stuck
+  does (Recover at x own hides body rest) m = then_do (spend m (λ m. recovered own (does body m))) (does rest)
 
 -- what code does, where at most n rounds of loops and calls are open one in another
 abbrev pub mean : UnitCode → (ℕ → Bool) → ℕ → Code → Moment → Result

@@ -11,7 +11,7 @@ use Rattle.perm_meaning.specs.Objects.{Objects, size, field_types, input_object,
 use Rattle.perm_meaning.specs.Machine.{Trapped, NoTurns, NoRoom, Final, Fine, GaveBack, Failed}
 use Rattle.perm_meaning.specs.Effects.{first_vars}
 use Rattle.perm_meaning.specs.NamedHeap.{Heap, Held, Own}
-use Rattle.perm_meaning.specs.Meaning.{Moment, Result, Well, Gave, Fails, Full, Stuck, mean}
+use Rattle.perm_meaning.specs.Meaning.{Moment, Result, Well, Gave, Handed, Fails, Full, Stuck, mean}
 use Rattle.perm_meaning.specs.Steps.{within}
 
 -- what is told of a run: its end, the printed numbers, the turns spent, the need, and the objects, of which that of Main is the root
@@ -71,6 +71,7 @@ reported turns (Failed NoRoom left printed) h = RanFull
 -- what is told of how the body of `Run` ends
 abbrev pub reported_result : ℕ → Result → Outcome
 reported_result turns (Well m) = RanStuck
+reported_result turns (Handed x v m) = RanStuck
 reported_result turns (Gave v m) = reported turns (GaveBack v m.turns m.own.printed) m.heap
 reported_result turns (Fails e left printed h) = reported turns (Failed e left printed) h
 reported_result turns Full = RanFull

@@ -3,9 +3,9 @@ use Rattle.std.specs.Prelude.{ℕ, suc, ◌-◌, Bool, true, false, List, [], �
 use Rattle.perm_tree.specs.declared.ast.Span.{Span}
 use Rattle.perm_tree.specs.declared.errors.TrapKind.{TrapKind}
 use Rattle.perm_tree.specs.declared.errors.TrapKind.TheVariants.{StackOverflow}
-use Rattle.perm_tree.specs.Code.{Argument, Expression, Consumed, Code, End, Give, Return, Do, If, While, Par, Recover, UnitCode}
+use Rattle.perm_tree.specs.Code.{Code, End, Give, Return, Do, If, While, Par, Recover, UnitCode}
 use Rattle.perm_meaning.specs.Values.{Eval, Gives, Traps, Mistyped}
-use Rattle.perm_meaning.specs.Expressions.{Reading, assign, assign_into, look_up, clear, clear_all, eval}
+use Rattle.perm_meaning.specs.Expressions.{Reading, assign, assign_into, look_up, clear, clear_all, eval, value_of}
 use Rattle.perm_meaning.specs.Machine.{Own, Frame, OpenBlock, OpenRecover, OpenCall, Blocks, Trapped, Marks, Did, On, Splits, Ends, Dies, Turn, Takes, NoTurn, Machine}
 use Rattle.perm_meaning.specs.Effects.{Op, Tick, Calling, Act, GoesOn, Calls, Halts, Effect, Does, Sticks, depth_limit, effect, with_vars}
 use Rattle.perm_meaning.specs.Custody.{Custody, parting, within_recover, laid_by, back_from_recover, while_called, lent_by}
@@ -55,18 +55,11 @@ module _ {V R G : Type 0} (k : Reading V R) (c : Custody) where
   turn_of at rest st Sticks = NoTurn
 
   -- ---------- what is needed of values ----------
-  -- go on with the value of an argument, which nothing comes after
-  abbrev pub on_argument : Argument → Span → Own V G → (V → Turn V G (Op V R G)) → Turn V G (Op V R G)
-  on_argument a at l go = from (eval_argument a)
-    where
-      eval_argument : Argument → Eval V
-      eval_argument (Expression e) = eval k e l.vars
-      eval_argument (Consumed y) = look_up k l.vars y
-
-      from : Eval V → Turn V G (Op V R G)
-      from (Gives v) = go v
-      from (Traps t) = trap at t
-      from Mistyped = NoTurn
+  -- go on with a value, or trap
+  abbrev pub on_value : Eval V → Span → (V → Turn V G (Op V R G)) → Turn V G (Op V R G)
+  on_value (Gives v) at go = go v
+  on_value (Traps t) at go = trap at t
+  on_value Mistyped at go = NoTurn
 
   -- one of two turns, by a truth value
   abbrev pub by_truth : Option Bool → Turn V G (Op V R G) → Turn V G (Op V R G) → Turn V G (Op V R G)
@@ -90,7 +83,7 @@ module _ {V R G : Type 0} (k : Reading V R) (c : Custody) where
   abbrev pub turn : UnitCode → Marks G → Code → List (Frame V) → Own V G → Turn V G (Op V R G)
   turn u g End st l = NoTurn
   turn u g (Give at w x) st l = given_back (look_up k l.vars w) w x st l
-  turn u g (Return at a) st l = on_argument a at l (λ v. returned v st l)
+  turn u g (Return at a) st l = on_value (value_of k a l.vars) at (λ v. returned v st l)
   turn u g (Do at i rest) st l = turn_of at rest st (effect k u g i l)
   turn u g (If at e own1 a own2 b rest) st l = on_test (eval k e l.vars) at (tick (On l a (OpenBlock own1 rest ∷ st))) (tick (On l b (OpenBlock own2 rest ∷ st)))
   turn u g (While at e own body rest) st l = on_test (eval k e l.vars) at (tick (On l body (OpenBlock own (While at e own body rest) ∷ st))) (tick (On l rest st))

@@ -1,6 +1,8 @@
 //! What a program means: what a run comes to.
 #![tactic(auto)]
 
+pub mod laws;
+
 use perm_tree::ast::Span;
 use perm_tree::errors::TrapKind;
 use perm_tree::list::{Numbers, Words};

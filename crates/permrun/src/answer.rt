@@ -1,6 +1,9 @@
 //! The answers of the program, with their texts and statuses.
 
-ghost use Rattle.std.specs.Prelude.{◌≡◌};
+ghost use Rattle.std.specs.Prelude.{◌≡◌, ◌++◌, codes, IfOk};
+ghost use Rattle.std.specs.Fmt.{signed_decimal};
+ghost use Rattle.std.specs.String.{string_bytes};
+ghost use Rattle.permrun.specs.Answers.{line, printed_text, status, text};
 
 use perm_tree::list::Numbers;
 use std::alloc::{AllocError, Global};
@@ -19,7 +22,9 @@ pub enum Answer {
 }
 
 /// The text of an answer: one line, behind one for each printed number.
-pub fn text_of(alloc: Global, answer: &Answer) -> Result<String, AllocError> {
+pub fn text_of(alloc: Global, answer: &Answer) -> Result<String, AllocError>
+    ensures { IfOk result (λ t. string_bytes t ≡ text answer.now) }
+{
     match answer {
         Answer::Usage => String::from_str(alloc, USAGE),
         Answer::ReadFault => String::from_str(alloc, "read fault program\n"),
@@ -29,7 +34,9 @@ pub fn text_of(alloc: Global, answer: &Answer) -> Result<String, AllocError> {
     }
 }
 
-fn run_text(alloc: Global, returned: i64, printed: &[i64]) -> Result<String, AllocError> {
+fn run_text(alloc: Global, returned: i64, printed: &[i64]) -> Result<String, AllocError>
+    ensures { IfOk result (λ t. string_bytes t ≡ printed_text printed.now ++ line (codes "done " ++ signed_decimal returned)) }
+{
     let mut text = String::new(alloc);
     for number in printed {
         writeln!(text, "{number}")?;
@@ -38,7 +45,9 @@ fn run_text(alloc: Global, returned: i64, printed: &[i64]) -> Result<String, All
     Ok(text)
 }
 
-pub fn status_of(answer: &Answer) -> u8 {
+pub fn status_of(answer: &Answer) -> u8
+    ensures { result ≡ status answer.now }
+{
     match answer {
         Answer::Usage => 2,
         Answer::ReadFault => 3,

@@ -1,6 +1,9 @@
 //! The one call that does all that the program does.
 
-ghost use Rattle.std.specs.Prelude.{◌≤◌, length};
+ghost use Rattle.std.specs.Prelude.{◌≡◌, ◌≤◌, length, map, IfOk};
+ghost use Rattle.std.specs.Option.{option_copied};
+ghost use Rattle.permrun.specs.declared.answer.Answer.{Answer};
+ghost use Rattle.permrun.specs.Causes.{named_path, is_option, IsCaused, IsOfProgram, IsWritten};
 
 use crate::answer::{Answer, status_of, text_of};
 use perm_base::{ReadFault, Shelf, Sink, read_text, write_all};
@@ -27,7 +30,11 @@ pub fn run_words<F: Shelf, K: Sink>(
     words: &[&str],
     shelf: &mut F,
     sink: &mut K,
-) -> Result<u8, NoMemory> {
+) -> Result<u8, NoMemory>
+    ensures { IfOk result (λ given. (answer : Answer)
+        × IsCaused (F.told shelf.old) (F.faults shelf.old) (F.faults shelf.new) (named_path (map (λ w. w.now) words.now)) answer
+        × IsWritten (K.told sink.old) (K.told sink.new) (K.faults sink.old) (K.faults sink.new) answer given) }
+{
     let answer = answer_to(alloc, words, shelf)?;
     let text = text_of(alloc, &answer)?;
     match write_all(sink, text.as_bytes()) {
@@ -36,7 +43,9 @@ pub fn run_words<F: Shelf, K: Sink>(
     }
 }
 
-fn answer_to<F: Shelf>(alloc: Global, words: &[&str], shelf: &mut F) -> Result<Answer, NoMemory> {
+fn answer_to<F: Shelf>(alloc: Global, words: &[&str], shelf: &mut F) -> Result<Answer, NoMemory>
+    ensures { IfOk result (IsCaused (F.told shelf.old) (F.faults shelf.old) (F.faults shelf.new) (named_path (map (λ w. w.now) words.now))) }
+{
     let Some(path) = program_path(words) else {
         return Ok(Answer::Usage);
     };
@@ -49,16 +58,34 @@ fn answer_to<F: Shelf>(alloc: Global, words: &[&str], shelf: &mut F) -> Result<A
 }
 
 /// The path that the words name: one word, which is no option.
-fn program_path<'a>(words: &[&'a str]) -> Option<&'a str> {
+fn program_path<'a>(words: &[&'a str]) -> Option<&'a str>
+    ensures { option_copied result ≡ named_path (map (λ w. w.now) words.now) }
+{
     match words {
-        [path] if !path.starts_with('-') => Some(path),
+        [word] => {
+            if begins_option(word.as_bytes()) {
+                None
+            } else {
+                Some(word)
+            }
+        }
         _ => None,
+    }
+}
+
+fn begins_option(word: &[u8]) -> bool
+    ensures { result ≡ is_option word.now }
+{
+    match word {
+        [first, ..] => *first == b'-',
+        [] => false,
     }
 }
 
 /// Runs a program's text without input.
 fn run_text(alloc: Global, text: &[u8]) -> Result<Answer, NoMemory>
     requires { length text.now ≤ 1048576 }
+    ensures { IfOk result IsOfProgram }
 {
     let unit = match read_straight(alloc, text) {
         Ok(unit) => unit,
