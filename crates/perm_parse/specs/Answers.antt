@@ -1,0 +1,39 @@
+-- Reading a list of tokens with the machine, up to the first refused one.
+use Rattle.std.specs.Prelude.{ℕ, ◌+◌, List, [], ◌∷◌, Option, Some, None, nat_le, if◌then◌else◌}
+use Rattle.perm_tree.specs.declared.tokens.Token.{Token}
+use Rattle.perm_parse.specs.Grammar.{Classes}
+use Rattle.perm_parse.specs.States.{State, level_state}
+use Rattle.perm_parse.specs.Machine.{step}
+use Rattle.perm_parse.specs.Parses.{Parses, IsFirstDead, IsTooDeepAt, deepest}
+use Rattle.perm_parse.specs.Meaning.{meaning}
+
+pub data Answer : Type 0 where
+  parsed : Classes → Answer
+  unexpected : ℕ → Answer
+  too_deep : ℕ → Answer
+
+-- at the end of the tokens
+abbrev pub ended : State → ℕ → Answer
+ended (State.between_classes list) place = parsed list
+ended _ place = unexpected place
+
+-- behind the token at a place
+abbrev pub went : ℕ → Option State → (State → Answer) → Answer
+went place None goes_on = unexpected place
+went place (Some q) goes_on = if nat_le (level_state q) deepest then goes_on q else too_deep place
+
+abbrev pub read_from : List Token → State → ℕ → Answer
+read_from [] q place = ended q place
+read_from (t ∷ ts) q place = went place (step q t) (λ r. read_from ts r (place + 1))
+
+abbrev pub start : State
+start = State.between_classes Classes.no_classes
+
+abbrev pub read : List Token → Answer
+read tokens = read_from tokens start 0
+
+-- what an answer says of the tokens
+abbrev pub IsAnswer : List ℕ → List Token → Answer → Type 0
+IsAnswer text tokens (parsed list) = Parses text tokens (meaning text list)
+IsAnswer text tokens (unexpected place) = IsFirstDead text tokens place
+IsAnswer text tokens (too_deep place) = IsTooDeepAt tokens place

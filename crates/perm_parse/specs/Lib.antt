@@ -1,0 +1,9 @@
+pub mod Grammar
+pub mod Levels
+pub mod States
+pub mod Machine
+pub mod Meaning
+pub mod Parses
+pub mod Answers
+pub mod Tokens
+pub mod Reading

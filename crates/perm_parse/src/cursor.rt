@@ -1,0 +1,219 @@
+//! The next token, and what is added to the program.
+
+ghost use Rattle.std.specs.Prelude.{◌≡◌, ℕ, ◌+◌, ◌<◌, ◌≤◌, [], ◌∷◌, ◌++◌, length, slice_get, IfOk, position, bytes_eq, slice_range};
+ghost use Rattle.std.specs.Bool.{OnTrue, OnFalse};
+ghost use Rattle.perm_tree.specs.Places.{ExprBelow, KindPlaced};
+ghost use Rattle.perm_parse.specs.Reading.{Added, Expected, ExpectedVar, IsAhead, IsNext, IsNotNext, Mentioned, Named, Numbered, Onward, Opened, Pushed, PushedStmt, Variable};
+
+use crate::parser::Parser;
+use perm_tree::ast::{Expr, Ident, Stmt};
+use perm_tree::errors::ParseError;
+use perm_tree::list::Name;
+use perm_tree::tokens::{Token, TokenKind};
+
+/// How many brackets and unary operators may be open.
+const DEEPEST: usize = 100;
+
+impl<'a> Parser<'a> {
+    /// The next token.
+    pub fn peek(&self) -> Option<Token>
+        ensures { result ≡ slice_get self.now.tokens.now self.now.at }
+    {
+        self.tokens.get(self.at).copied()
+    }
+
+    /// The refusal of the next token.
+    pub fn unexpected(&self) -> ParseError
+        ensures { result ≡ ParseError.Unexpected self.now.at }
+    {
+        ParseError::Unexpected {
+            token: self.at as u32,
+        }
+    }
+
+    /// The refusal of the next token for its level.
+    pub fn too_deep(&self) -> ParseError
+        ensures { result ≡ ParseError.TooDeep self.now.at }
+    {
+        ParseError::TooDeep {
+            token: self.at as u32,
+        }
+    }
+
+    /// Goes on to the next token.
+    pub fn advance(&mut self)
+        requires { self.old.at < length self.old.tokens.now }
+        ensures { IsAhead self.old self.new }
+    {
+        self.at += 1;
+    }
+
+    /// Takes a token of this kind, which has to come next.
+    pub fn expect(&mut self, wanted: TokenKind) -> Result<Token, ParseError>
+        ensures expected { Expected wanted self.old self.new result }
+        ensures onward { Onward self.old self.new }
+    {
+        let Some(token) = self.peek() else {
+            return Err(self.unexpected());
+        };
+        if token.kind == wanted {
+            self.advance();
+            Ok(token)
+        } else {
+            Err(self.unexpected())
+        }
+    }
+
+    /// Whether a token of this kind comes next.
+    pub fn next_is(&self, wanted: TokenKind) -> bool
+        ensures yes { OnTrue result (IsNext wanted self.now) }
+        ensures no { OnFalse result (IsNotNext wanted self.now) }
+    {
+        match self.peek() {
+            Some(token) => token.kind == wanted,
+            None => false,
+        }
+    }
+
+    /// Takes a name or `this`, which has to come next.
+    pub fn variable(&mut self) -> Result<Token, ParseError>
+        ensures expected { ExpectedVar self.old self.new result }
+        ensures onward { Onward self.old self.new }
+    {
+        let Some(token) = self.peek() else {
+            return Err(self.unexpected());
+        };
+        match token.kind {
+            TokenKind::Name => {
+                self.advance();
+                Ok(token)
+            }
+            TokenKind::This => {
+                self.advance();
+                Ok(token)
+            }
+            _ => Err(self.unexpected()),
+        }
+    }
+
+    /// Takes an opening bracket, or a unary operator, which has to come next.
+    pub fn open(&mut self, wanted: TokenKind, depth: usize) -> Result<Token, ParseError>
+        requires { depth ≤ 100 }
+        ensures opened { Opened wanted depth self.old self.new result }
+        ensures onward { Onward self.old self.new }
+    {
+        let Some(token) = self.peek() else {
+            return Err(self.unexpected());
+        };
+        if token.kind == wanted {
+            if depth == DEEPEST {
+                return Err(self.too_deep());
+            }
+            self.advance();
+            Ok(token)
+        } else {
+            Err(self.unexpected())
+        }
+    }
+
+    /// Adds an expression, and answers its place.
+    pub fn add_expr(&mut self, e: Expr) -> Result<u32, ParseError>
+        requires { ExprBelow (length self.old.program.exprs) e }
+        ensures pushed { Pushed e self.old self.new result }
+        ensures onward { Onward self.old self.new }
+        ensures below { IfOk result (λ n. n < length self.new.program.exprs) }
+    {
+        self.program.push_expr(e).map_err(|_| ParseError::NoMemory)
+    }
+
+    /// The place of a name among those so far.
+    pub fn known(&self, name: &[u8]) -> Option<usize>
+        ensures { result ≡ position (λ other. bytes_eq other name.now) self.now.program.names }
+    {
+        self.program
+            .names()
+            .iter()
+            .position(|other| other.as_slice() == name)
+    }
+
+    /// Adds the name of a token, and answers its number.
+    pub fn add_name(&mut self, token: Token) -> Result<u32, ParseError>
+        requires start { token.span.start ≤ token.span.end }
+        requires end { token.span.end ≤ length self.old.text.now }
+        ensures added { Added (slice_range self.old.text.now token.span.start token.span.end) self.old self.new result }
+        ensures onward { Onward self.old self.new }
+    {
+        let bytes = self.text[token.span.start as usize..token.span.end as usize]
+            .to_vec(self.alloc)
+            .map_err(|_| ParseError::NoMemory)?;
+        self.program
+            .push_name(Name::from_vec(bytes))
+            .map_err(|_| ParseError::NoMemory)
+    }
+
+    /// The number of the name of a token.
+    pub fn number(&mut self, token: Token) -> Result<u32, ParseError>
+        requires start { token.span.start ≤ token.span.end }
+        requires end { token.span.end ≤ length self.old.text.now }
+        ensures numbered { Numbered token self.old self.new result }
+        ensures onward { Onward self.old self.new }
+    {
+        let bytes = &self.text[token.span.start as usize..token.span.end as usize];
+        let Some(at) = self.known(bytes) else {
+            return self.add_name(token);
+        };
+        u32::try_from(at).map_err(|_| ParseError::NoMemory)
+    }
+
+    /// A name, with its number.
+    pub fn ident(&mut self, token: Token) -> Result<Ident, ParseError>
+        requires start { token.span.start ≤ token.span.end }
+        requires end { token.span.end ≤ length self.old.text.now }
+        ensures named { Named token self.old self.new result }
+        ensures onward { Onward self.old self.new }
+    {
+        let name = self.number(token)?;
+        Ok(Ident {
+            name,
+            span: token.span,
+        })
+    }
+
+    /// The number of a variable: 0 for `this`.
+    pub fn var(&mut self, token: Token) -> Result<Ident, ParseError>
+        requires start { token.span.start ≤ token.span.end }
+        requires end { token.span.end ≤ length self.old.text.now }
+        ensures named { Variable token self.old self.new result }
+        ensures onward { Onward self.old self.new }
+    {
+        match token.kind {
+            TokenKind::This => Ok(Ident {
+                name: 0,
+                span: token.span,
+            }),
+            _ => self.ident(token),
+        }
+    }
+
+    /// Adds a class name that stands in a type or behind `new`.
+    pub fn mention(&mut self, name: Ident) -> Result<(), ParseError>
+        ensures mentioned { Mentioned name self.old self.new result }
+        ensures onward { Onward self.old self.new }
+    {
+        self.program
+            .push_mention(name)
+            .map_err(|_| ParseError::NoMemory)
+    }
+
+    /// Adds a statement, and answers its place.
+    pub fn add_stmt(&mut self, stmt: Stmt) -> Result<u32, ParseError>
+        requires { KindPlaced (length self.old.program.exprs) (length self.old.program.stmts) stmt.kind }
+        ensures pushed { PushedStmt stmt self.old self.new result }
+        ensures onward { Onward self.old self.new }
+        ensures below { IfOk result (λ n. n < length self.new.program.stmts) }
+    {
+        self.program
+            .push_stmt(stmt)
+            .map_err(|_| ParseError::NoMemory)
+    }
+}
