@@ -3,7 +3,6 @@ use Rattle.std.proofs.Common.{◌≡◌, ℕ, ◌+◌, ◌≤◌, List, [], ◌�
 use Rattle.std.proofs.Math.Seq.{take-append_seam, take-append-add, take-length}
 use Rattle.std.proofs.lemmas.List.{length-append}
 use Rattle.std.proofs.lemmas.Bool.{leb-true, leb-false}
-use Rattle.perm_tree.specs.Places.{Listing}
 use Rattle.perm_tree.specs.declared.tokens.Token.{Token}
 use Rattle.perm_parse.specs.Grammar.{Classes, IsProgram, program_text}
 use Rattle.perm_parse.specs.Levels.{program_levels}
@@ -90,9 +89,9 @@ step-dead pre t ls q e stop f =
     ap (λ (w : List ℕ × Option State). w.1) (walks-on pre (t ∷ f.more) ls q e) ∙ ap (λ (x : Option State). (noted x (λ z. walk z f.more)).1) stop in
     never (State.between_classes f.tree) (sym (ap (λ (w : List ℕ × Option State). w.1) yes) ∙ ap (λ (x : List Token). (walk start x).1) same ∙ no)
 
--- a program is read to its end
-only : (text : List ℕ) (ts : List Token) (p : Listing) (h : Parses text ts p) → (walk start ts).1 ≡ Some (State.between_classes h.tree)
-only text ts p h = ap (λ (x : List Token). (walk start x).1) (sym h.spells) ∙ ap (λ (w : List ℕ × Option State). w.1) (complete h.tree h.is_tree)
+-- a program, however deep, is read to its end
+only : (ts : List Token) (c : Classes) → IsProgram c → program_text c [] ≡ ts → (walk start ts).1 ≡ Some (State.between_classes c)
+only ts c is spells = ap (λ (x : List Token). (walk start x).1) (sym spells) ∙ ap (λ (w : List ℕ × Option State). w.1) (complete c is)
 
 program-is : (text : List ℕ) (ts : List Token) (ls : List ℕ) (c : Classes) → Walks ts ls (State.between_classes c) → Shallow ls → Parses text ts (meaning text c)
 program-is text ts ls c e low =
@@ -100,12 +99,12 @@ program-is text ts ls c e low =
     let levels : ls ≡ program_levels c [] = sym (ap (λ (w : List ℕ × Option State). w.0) e) ∙ ap (λ (x : List Token). (walk start x).0) (sym d.1) ∙ ap (λ (w : List ℕ × Option State). w.0) (complete c d.0) in
     record { tree = c; is_tree = d.0; spells = d.1; means = refl; shallow = subst Shallow levels low }
 
-not-end : (text : List ℕ) (ts : List Token) (ls : List ℕ) (q : State) → Walks ts ls q → ((c : Classes) → q ≡ State.between_classes c → ⊥) → IsFirstDead text ts (length ts)
+not-end : (text : List ℕ) (ts : List Token) (ls : List ℕ) (q : State) → Walks ts ls q → ((c : Classes) → q ≡ State.between_classes c → ⊥) → IsFirstDead ts (length ts)
 not-end text ts ls q e h = record {
   within = omega arith;
   front = rw take-length (front ts ls q e);
   dead = λ lt. absurd (omega arith);
-  ended = λ lt p g. h g.tree (some-is q (State.between_classes g.tree) (sym (ap (λ (w : List ℕ × Option State). w.1) e) ∙ only text ts p g));
+  ended = λ lt c is spells. h c (some-is q (State.between_classes c) (sym (ap (λ (w : List ℕ × Option State). w.1) e) ∙ only ts c is spells));
 }
 
 at-end : (text : List ℕ) (ts : List Token) (ls : List ℕ) (q : State) → Walks ts ls q → Shallow ls → IsAnswer text ts (ended q (length ts))

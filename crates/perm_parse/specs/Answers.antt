@@ -35,5 +35,5 @@ read tokens = read_from tokens start 0
 -- what an answer says of the tokens
 abbrev pub IsAnswer : List ℕ → List Token → Answer → Type 0
 IsAnswer text tokens (parsed list) = Parses text tokens (meaning text list)
-IsAnswer text tokens (unexpected place) = IsFirstDead text tokens place
+IsAnswer text tokens (unexpected place) = IsFirstDead tokens place
 IsAnswer text tokens (too_deep place) = IsTooDeepAt tokens place

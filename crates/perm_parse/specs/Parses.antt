@@ -31,11 +31,11 @@ pub record IsFront (tokens : List Token) : Type 0 where
   pub spells : program_text tree [] ≡ tokens ++ more
 
 -- the token at this place is the first that no program continues with, however deep; or it is the end of tokens that are only a front
-pub record IsFirstDead (text : List ℕ) (tokens : List Token) (place : ℕ) : Type 0 where
+pub record IsFirstDead (tokens : List Token) (place : ℕ) : Type 0 where
   pub within : place ≤ length tokens
   pub front : IsFront (take place tokens)
   pub dead : place < length tokens → ¬ IsFront (take (place + 1) tokens)
-  pub ended : place ≡ length tokens → (program : Listing) → ¬ Parses text tokens program
+  pub ended : place ≡ length tokens → (tree : Classes) → IsProgram tree → program_text tree [] ≡ tokens → ⊥
 
 -- the tokens up to this one are a front, and it is the first that makes a level past the deepest
 pub record IsTooDeepAt (tokens : List Token) (place : ℕ) : Type 0 where
