@@ -3,7 +3,7 @@
 use crate::{FileShelf, MemFile, MemShelf, MemSink, ReadFault, StdSink, read_text, write_all};
 use std::alloc::{AllocError, Global};
 use std::test::Fail;
-use std::{fs, process};
+use std::{env, fs, process};
 
 fn pattern(alloc: Global, count: usize) -> Result<Vec<u8>, AllocError> {
     (0..count).map(|place| (place % 251) as u8).collect(alloc)
@@ -98,11 +98,14 @@ fn writes_in_steps(rt: HostRuntime) -> Result<(), Fail> {
 #[test]
 fn reads_a_real_file(rt: HostRuntime) -> Result<(), Fail> {
     let alloc = rt.alloc();
-    let path = format!(in alloc; "/tmp/perm_base_{}", process::id(rt.process()))?;
+    let folder = env::temp_dir(&rt)?;
+    let folder = folder.as_str();
+    let id = process::id(rt.process());
+    let path = format!(in alloc; "{folder}/perm_base_{id}")?;
     let path = path.as_str();
     let mut shelf = FileShelf::new(&rt);
     assert_eq!(rt;
-        read_text(alloc, &mut shelf, "/tmp/perm_base/no/such/file", 10).err(),
+        read_text(alloc, &mut shelf, path, 10).err(),
         Some(ReadFault::Fault)
     );
     assert_eq!(rt; shelf.faults, 1);

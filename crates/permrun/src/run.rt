@@ -31,9 +31,10 @@ pub fn run_words<F: Shelf, K: Sink>(
     shelf: &mut F,
     sink: &mut K,
 ) -> Result<u8, NoMemory>
-    ensures { IfOk result (λ given. (answer : Answer)
+    ensures answer { IfOk result (λ given. (answer : Answer)
         × IsCaused (F.told shelf.old) (F.faults shelf.old) (F.faults shelf.new) (named_path (map (λ w. w.now) words.now)) answer
         × IsWritten (K.told sink.old) (K.told sink.new) (K.faults sink.old) (K.faults sink.new) answer given) }
+    ensures files { F.told shelf.new ≡ F.told shelf.old }
 {
     let answer = answer_to(alloc, words, shelf)?;
     let text = text_of(alloc, &answer)?;
@@ -44,7 +45,8 @@ pub fn run_words<F: Shelf, K: Sink>(
 }
 
 fn answer_to<F: Shelf>(alloc: Global, words: &[&str], shelf: &mut F) -> Result<Answer, NoMemory>
-    ensures { IfOk result (IsCaused (F.told shelf.old) (F.faults shelf.old) (F.faults shelf.new) (named_path (map (λ w. w.now) words.now))) }
+    ensures caused { IfOk result (IsCaused (F.told shelf.old) (F.faults shelf.old) (F.faults shelf.new) (named_path (map (λ w. w.now) words.now))) }
+    ensures files { F.told shelf.new ≡ F.told shelf.old }
 {
     let Some(path) = program_path(words) else {
         return Ok(Answer::Usage);
