@@ -13,10 +13,11 @@ use Rattle.perm_meaning.specs.Machine.{Frame, OpenBlock, OpenRecover, OpenCall, 
 use Rattle.perm_meaning.specs.Effects.{Make}
 use Rattle.perm_meaning.specs.NamedHeap as named
 use Rattle.perm_meaning.specs.NamedHeap.{Held, has_room}
+use Rattle.perm_meaning.specs.WordHeap as worded
 use Rattle.perm_meaning.specs.Steps.{within}
 use Rattle.perm_meaning.proofs.Shown.{code}
 use Rattle.perm_core.specs.Core as core
-use Rattle.perm_core.specs.WordCore as worded
+use Rattle.perm_core.specs.WordCore as word_core
 use Rattle.perm_core.proofs.RegionPrograms.{moving_regions, failing_regions}
 use Rattle.perm_core.proofs.Schedules.{Policy, LeftFirst, RightFirst, InTurn, next_policy, next_way}
 
@@ -87,7 +88,7 @@ named_after u limit s (Some w) = core.step u limit s w
 
 abbrev worded_after : UnitCode → ℕ → worded.State → Option Way → Option worded.State
 worded_after u limit t None = None
-worded_after u limit t (Some w) = worded.step u limit t w
+worded_after u limit t (Some w) = word_core.step u limit t w
 
 -- both have gone on, or both have ended
 abbrev on_both : Option Way → Option named.State → Option worded.State → (Way → named.State → worded.State → ℕ) → ℕ

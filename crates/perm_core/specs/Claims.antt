@@ -1,5 +1,5 @@
 -- What the laws of the core claim.
-use Rattle.std.specs.Prelude.{◌≡◌, ◌≢◌, ℕ, ◌*◌, ◌≤◌, ◌⊎◌, false, ℤ, List, [], ◌∷◌, length, Option, Some, None, slice_get}
+use Rattle.std.specs.Prelude.{◌≡◌, ◌≢◌, ℕ, ◌*◌, ◌^◌, ◌<◌, ◌≤◌, ◌⊎◌, false, ℤ, List, [], ◌∷◌, length, Option, Some, None, slice_get}
 use Rattle.perm_tree.specs.Code.{Routine, UnitCode}
 use Rattle.perm_rules.specs.Goes.{IsAccepted}
 use Rattle.perm_meaning.specs.Machine.{Branch, Leaf, Fork, Blocks, Way, Here, GoL, GoR, Final, final, over, stage, Machine, leaf_op, leaf_on, resumed, join_of}
@@ -10,8 +10,9 @@ use Rattle.perm_meaning.specs.NamedHeap.{Op, Task, State, has_room}
 use Rattle.perm_meaning.specs.Steps.{Lone, Run, lone_task, lone_way, lone_on, lone_of, within}
 use Rattle.perm_meaning.specs.Outcome.{RanFull, outcome, opening_need}
 use Rattle.perm_core.specs.Core.{look, step, runs, IsLawful, IsComplete, opening_state, core_outcome, Conflict}
-use Rattle.perm_core.specs.WordCore as worded
-use Rattle.perm_core.specs.Shows.{Bases, Grows, IsShownBy}
+use Rattle.perm_meaning.specs.WordHeap as worded
+use Rattle.perm_core.specs.WordCore as word_core
+use Rattle.perm_meaning.specs.Shows.{Bases, Grows, IsShownBy}
 use Rattle.perm_core.specs.Whole.{IsWhole}
 use Rattle.perm_core.specs.Picture.{IsPicture}
 use Rattle.perm_core.specs.Regions.{Labels}
@@ -91,8 +92,8 @@ module _ (u : UnitCode) (limit : ℕ) where
   -- ---------- words ----------
   -- the core on words does what the core on names does
   abbrev pub WordsFollow : Type 0
-  WordsFollow = (labels : Labels) (b : Bases) (s s' : State) (t : worded.State) (w : Way) → IsPicture u labels s → IsShownBy b s t → step u limit s w ≡ Some s'
-      → (t' : worded.State) × (worded.step u limit t w ≡ Some t') × (c : Bases) × Grows b c × IsShownBy c s' t'
+  WordsFollow = limit < 2 ^ 32 → (labels : Labels) (b : Bases) (s s' : State) (t : worded.State) (w : Way) → IsPicture u labels s → IsShownBy b s t → step u limit s w ≡ Some s'
+      → (t' : worded.State) × (word_core.step u limit t w ≡ Some t') × (c : Bases) × Grows b c × IsShownBy c s' t'
 
 -- ---------- pieces ----------
 module _ {V G O : Type 0} (m : Machine V G O) where

@@ -1,6 +1,5 @@
 pub mod Core
 pub mod WordCore
-pub mod Shows
 pub mod Endings
 pub mod Marked
 pub mod Whole

@@ -12,6 +12,8 @@ pub mod Meaning
 pub mod Outcome
 pub mod Words
 pub mod Relate
+pub mod WordHeap
+pub mod Shows
 pub mod Layout
 pub mod OneShape
 pub mod Claims

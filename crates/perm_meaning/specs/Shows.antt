@@ -1,15 +1,15 @@
--- When a state of the core on words shows a state on names. Two states on words match where they show one state on names.
-use Rattle.std.specs.Prelude.{◌≡◌, ℕ, ◌+◌, ◌<◌, ◌≤◌, length, Option, Some, None}
+-- When a state on words shows a state on names. Two states on words match where they show one state on names.
+use Rattle.std.specs.Prelude.{◌≡◌, ℕ, suc, ◌+◌, ◌<◌, ◌≤◌, ◌^◌, length, Option, Some, None}
 use Rattle.perm_meaning.specs.Values.{Value, Number, Truth, Null, Reference}
-use Rattle.perm_meaning.specs.Words.{number_word, truth_word, reference_word}
+use Rattle.perm_meaning.specs.Words.{number_in, truth_word, reference_word}
 use Rattle.perm_meaning.specs.Names.{Name, Mark}
 use Rattle.perm_meaning.specs.Objects.{Object, object_size, field_of}
 use Rattle.perm_meaning.specs.NamedHeap as named
 use Rattle.perm_meaning.specs.NamedHeap.{Heap, Held}
 use Rattle.perm_meaning.specs.Effects.{Tick, Load, Store, Take, Make}
 use Rattle.perm_meaning.specs.Relate.{TaskR}
-use Rattle.perm_core.specs.WordCore as worded
-use Rattle.perm_core.specs.WordCore.{Cells, NoMark}
+use Rattle.perm_meaning.specs.WordHeap as worded
+use Rattle.perm_meaning.specs.WordHeap.{Cells, NoMark}
 
 -- the bases of objects; one that isn't made yet has none
 abbrev pub Bases : Type 0
@@ -19,13 +19,13 @@ Bases = Name → Option ℕ
 abbrev pub Grows : Bases → Bases → Type 0
 Grows b c = (n : Name) (k : ℕ) → b n ≡ Some k → c n ≡ Some k
 
--- the word of what a variable holds; of one that has no value nothing is said
+-- the word of what a variable holds: a word of 64 bits that holds the number, that of a truth value, 0 for null, and that of a base for a reference. Of a variable that has no value nothing is said
 abbrev pub IsWordOf : Bases → Held → ℕ → Type 0
 IsWordOf b None w = Unit {0}
-IsWordOf b (Some (Number n)) w = w ≡ number_word n
+IsWordOf b (Some (Number n)) w = (n ≡ number_in w) × (w < 2 ^ 64)
 IsWordOf b (Some (Truth t)) w = w ≡ truth_word t
 IsWordOf b (Some Null) w = w ≡ 0
-IsWordOf b (Some (Reference r len)) w = (k : ℕ) × (b r ≡ Some k) × (w ≡ reference_word k len)
+IsWordOf b (Some (Reference r len)) w = (k : ℕ) × (b r ≡ Some k) × (suc k < 2 ^ 32) × (w ≡ reference_word k len)
 
 -- words bear no names, so nothing is said of them
 abbrev pub AnyMark : Mark → NoMark → Type 0
