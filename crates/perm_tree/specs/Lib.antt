@@ -10,6 +10,7 @@ pub mod Resolves
 pub mod Scopes
 pub mod Spelling
 pub mod Straight
+pub mod TextPlaces
 pub mod Ties
 pub mod UnitTables
 pub mod Vars
