@@ -1,0 +1,18 @@
+use Rattle.std.proofs.Common.{codes, arith}
+use Rattle.perm_answer.proofs.Refused.{lex_room, syntax_room, table_room}
+use Rattle.perm_answer.proofs.room.room_of.Goals as goal
+
+pub returns-in-Lex : goal.returns-in-Lex
+returns-in-Lex c =
+    lex_room c.args.answer.now c.in-Lex.place c.lex_word.result.now c.refusal_room.result c.in-Lex.error c.in-Lex.is c.lex_word.ensures
+    (c.refusal_room.ensures (codes "lex ") (omega arith))
+
+pub returns-in-Syntax : goal.returns-in-Syntax
+returns-in-Syntax c =
+    syntax_room c.args.answer.now c.in-Syntax.place c.syntax_word.result.now c.refusal_room-in-Syntax.result c.in-Syntax.error c.in-Syntax.is c.syntax_word.ensures
+    (c.refusal_room-in-Syntax.ensures (codes "syntax ") (omega arith))
+
+pub returns-in-Table : goal.returns-in-Table
+returns-in-Table c =
+    table_room c.args.answer.now c.in-Table.place c.table_word.result.now c.refusal_room-in-Table.result c.in-Table.error c.in-Table.is c.table_word.ensures
+    (c.refusal_room-in-Table.ensures (codes "table ") (omega arith))

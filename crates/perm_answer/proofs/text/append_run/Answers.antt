@@ -1,0 +1,16 @@
+use Rattle.std.proofs.Common.{◌≡◌, ◌+◌, length, ap, take, codes, arith}
+use Rattle.std.proofs.lemmas.List.{length-append}
+use Rattle.perm_answer.specs.Answers.{number_line, printed_text, run_text}
+use Rattle.perm_answer.proofs.Printed.{printed_front}
+use Rattle.perm_answer.proofs.text.append_run.Goals as goal
+
+pub append_line-requires : goal.append_line-requires
+append_line-requires c =
+    let front = printed_front c.args.printed.now c.loop-number.number-index c.loop-number-test.true in
+    let now = ap length c.loop-number.invariant.items in
+    let joined = length-append c.args.text.now.items (printed_text (take c.loop-number.number-index c.args.printed.now)) in
+    let whole : length (run_text c.args.printed.now c.args.returned) ≡ length (printed_text c.args.printed.now) + length (number_line (codes "done ") c.args.returned) =
+    length-append (printed_text c.args.printed.now) (number_line (codes "done ") c.args.returned) in
+    let room = c.requires.room in
+    let capacity = c.loop-number.invariant.capacity in
+    omega arith

@@ -1,0 +1,40 @@
+//! The words of refusals.
+
+ghost use Rattle.std.specs.Prelude.{◌≡◌, ◌≤◌, ◌≢◌, length};
+ghost use Rattle.perm_answer.specs.Answers.{lex_word_of, syntax_word_of, table_word_of};
+
+use perm_tree::errors::{LexError, ParseError, TableError};
+
+pub fn lex_word(error: &LexError) -> &'static str
+    ensures { result.now ≡ lex_word_of error.now }
+{
+    match error {
+        LexError::BadByte { .. } => "BadByte",
+        LexError::NumberTooLarge { .. } => "NumberTooLarge",
+        LexError::UnclosedComment { .. } => "UnclosedComment",
+        LexError::NoMemory => "",
+    }
+}
+
+pub fn syntax_word(error: &ParseError) -> &'static str
+    ensures { result.now ≡ syntax_word_of error.now }
+{
+    match error {
+        ParseError::Unexpected { .. } => "Unexpected",
+        ParseError::TooDeep { .. } => "TooDeep",
+        ParseError::NoMemory => "",
+    }
+}
+
+pub fn table_word(error: &TableError) -> &'static str
+    ensures { result.now ≡ table_word_of error.now }
+{
+    match error {
+        TableError::DuplicateName { .. } => "DuplicateName",
+        TableError::UnknownClass { .. } => "UnknownClass",
+        TableError::NoMain => "NoMain",
+        TableError::BadMain { .. } => "BadMain",
+        TableError::TooMany { .. } => "TooMany",
+        TableError::NoMemory => "",
+    }
+}
