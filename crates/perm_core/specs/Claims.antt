@@ -12,6 +12,7 @@ use Rattle.perm_meaning.specs.Outcome.{RanFull, outcome, opening_need}
 use Rattle.perm_core.specs.Core.{look, step, runs, IsLawful, IsComplete, opening_state, core_outcome, Conflict}
 use Rattle.perm_meaning.specs.WordHeap as worded
 use Rattle.perm_core.specs.WordCore as word_core
+use Rattle.perm_meaning.specs.Literals.{NumbersFit, UnitFits}
 use Rattle.perm_meaning.specs.Shows.{Bases, Grows, IsShownBy}
 use Rattle.perm_core.specs.Whole.{IsWhole}
 use Rattle.perm_core.specs.Picture.{IsPicture}
@@ -90,9 +91,10 @@ module _ (u : UnitCode) (limit : ℕ) where
       → (SomeRefused ws (opening_state u input turns r) → outcome u input turns limit ≡ RanFull) × (outcome u input turns limit ≡ RanFull → SomeRefused ws (opening_state u input turns r))
 
   -- ---------- words ----------
-  -- the core on words does what the core on names does
-  abbrev pub WordsFollow : Type 0
-  WordsFollow = limit < 2 ^ 32 → (labels : Labels) (b : Bases) (s s' : State) (t : worded.State) (w : Way) → IsPicture u labels s → IsShownBy b s t → step u limit s w ≡ Some s'
+  -- the core on words does what the core on names does, in each state that is reached from the opening
+  abbrev pub WordsFollow : List ℤ → ℕ → Type 0
+  WordsFollow input turns = limit < 2 ^ 32 → UnitFits u → NumbersFit input → (r : Routine) → IsChecked u → Opens input r
+      → (ws : List Way) (s s' : State) (b : Bases) (t : worded.State) (w : Way) → runs u limit ws (opening_state u input turns r) ≡ Some s → IsShownBy b s t → step u limit s w ≡ Some s'
       → (t' : worded.State) × (word_core.step u limit t w ≡ Some t') × (c : Bases) × Grows b c × IsShownBy c s' t'
 
 -- ---------- pieces ----------

@@ -16,4 +16,6 @@ pub mod WordHeap
 pub mod Shows
 pub mod Layout
 pub mod OneShape
+pub mod Literals
+pub mod Told
 pub mod Claims

@@ -19,13 +19,13 @@ Bases = Name → Option ℕ
 abbrev pub Grows : Bases → Bases → Type 0
 Grows b c = (n : Name) (k : ℕ) → b n ≡ Some k → c n ≡ Some k
 
--- the word of what a variable holds: a word of 64 bits that holds the number, that of a truth value, 0 for null, and that of a base for a reference. Of a variable that has no value nothing is said
+-- the word of what a variable holds: a word of 64 bits that holds the number, that of a truth value, 0 for null, and for a reference that of its base and its length, of 32 bits each. Of a variable that has no value nothing is said
 abbrev pub IsWordOf : Bases → Held → ℕ → Type 0
 IsWordOf b None w = Unit {0}
 IsWordOf b (Some (Number n)) w = (n ≡ number_in w) × (w < 2 ^ 64)
 IsWordOf b (Some (Truth t)) w = w ≡ truth_word t
 IsWordOf b (Some Null) w = w ≡ 0
-IsWordOf b (Some (Reference r len)) w = (k : ℕ) × (b r ≡ Some k) × (suc k < 2 ^ 32) × (w ≡ reference_word k len)
+IsWordOf b (Some (Reference r len)) w = (k : ℕ) × (b r ≡ Some k) × (suc k < 2 ^ 32) × (len < 2 ^ 32) × (w ≡ reference_word k len)
 
 -- words bear no names, so nothing is said of them
 abbrev pub AnyMark : Mark → NoMark → Type 0

@@ -1,5 +1,5 @@
 -- The heap of words, and the machine on it: variables and the heap hold words, references are bases, and no branch knows a name. A running program's variables, slots and views hold this.
-use Rattle.std.specs.Prelude.{ℕ, zero, suc, ◌+◌, Bool, true, false, ℤ, List, [], ◌∷◌, length, Option, None, nat_eq, cond}
+use Rattle.std.specs.Prelude.{ℕ, zero, suc, ◌+◌, Bool, true, false, ℤ, List, [], ◌∷◌, length, None, nat_eq, cond}
 use Rattle.perm_tree.specs.Code.{Routine, UnitCode}
 use Rattle.perm_meaning.specs.Objects.{size, length_of}
 use Rattle.perm_meaning.specs.Machine as machines

@@ -1,8 +1,8 @@
-//! Laws of the meaning and of the machine on names. A law does nothing: its contract is the claim.
+//! Laws of the meaning, of the machine on names and of the machine on words. A law does nothing: its contract is the claim.
 
 ghost use Rattle.std.specs.Prelude.{ℕ, ℤ, List};
 ghost use Rattle.perm_tree.specs.Code.{UnitCode};
-ghost use Rattle.perm_meaning.specs.Claims.{EndsAsMeaning, FillsAsMeaning, HolderGoesLeftFirst};
+ghost use Rattle.perm_meaning.specs.Claims.{EndsAsMeaning, FillsAsMeaning, HolderGoesLeftFirst, WordsEndAsMeaning, WordsFillAsMeaning, WordsShowNames};
 ghost use Rattle.perm_meaning.specs.Custody.{Custody};
 ghost use Rattle.perm_meaning.specs.Machine.{Marks};
 ghost use Rattle.perm_meaning.specs.NamedHeap.{named};
@@ -19,4 +19,11 @@ pub fn left_first()
 pub fn holders()
     ensures on_names { (c : Custody) (u : UnitCode) → HolderGoesLeftFirst (named c u) }
     ensures on_words { (c : Custody) (g : Marks (Unit {0})) (u : UnitCode) → HolderGoesLeftFirst (machine words c g u) }
+{}
+
+/// The machine on words, left first, shows the machine on names after each event, and so it ends as the meaning says, or comes to the refused allocation that fills the heap.
+pub fn on_words()
+    ensures shows { (u : UnitCode) (limit : ℕ) (c : Custody) (input : List ℤ) (turns : ℕ) → WordsShowNames u limit c input turns }
+    ensures ends { (u : UnitCode) (limit : ℕ) (input : List ℤ) (turns : ℕ) → WordsEndAsMeaning u limit input turns }
+    ensures fills { (u : UnitCode) (limit : ℕ) (input : List ℤ) (turns : ℕ) → WordsFillAsMeaning u limit input turns }
 {}
