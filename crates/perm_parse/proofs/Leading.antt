@@ -40,6 +40,12 @@ stepped p new t q r n a h le = record {
   same = steps (rest p) (drop (p.at + 1) p.tokens.now) p.at t q r (drop-some p.tokens.now p.at t n) h le ∙ rw (a.at, a.tokens) refl;
 }
 
+-- the same where the program grows
+pub stepped-on : (p new : Parser) (t : Token) (q r : State) → Next p t → new.tokens ≡ p.tokens → new.at ≡ p.at + 1 → step q t ≡ Some r → level_state r ≤ 100 → Leads p q new r
+stepped-on p new t q r n tokens at h le = record {
+  same = steps (rest p) (drop (p.at + 1) p.tokens.now) p.at t q r (drop-some p.tokens.now p.at t n) h le ∙ rw (at, tokens) refl;
+}
+
 pub dead : (p : Parser) (t : Token) (q : State) → Next p t → step q t ≡ None → Refuses p q (Unexpected p.at)
 dead p t q n h = record { says = refuses (rest p) (drop (p.at + 1) p.tokens.now) (drop-some p.tokens.now p.at t n) }
   where

@@ -17,15 +17,16 @@ use Rattle.perm_parse.specs.declared.parser.Parser.{Parser}
 use Rattle.perm_parse.specs.Grammar.{TypeTree, perm_word}
 use Rattle.perm_parse.specs.States.{State, TypeFor, Wanted, type_for_text, level_type_for, level_state}
 use Rattle.perm_parse.specs.Machine.{step_as, step_type, step_perm_seen, typed}
-use Rattle.perm_parse.specs.Meaning.{ident, type_of}
+use Rattle.perm_parse.specs.Meaning.{ident, type_of, type_first}
 use Rattle.perm_parse.specs.Reading.{Next, IsNext, IsNotNext, Expected, Opened, Named, Mentioned, Leads, Refuses, ShapeRead, ReadsShape, TypeRead, ReadsType}
 use Rattle.perm_parse.proofs.Leading.{via, refused, here, dead, at-end, takes, misses, only-expects, too-deep}
 
 -- a word that is a whole type
-pub word-ok : (old new : Parser) (depth : ℕ) (wanted : TokenKind) (t : Token) (tree : TypeTree) (ty : Ty) → depth ≤ 100 → Expected wanted old new (Ok t) → ((k : TypeFor) → step_type k t wanted ≡ Some (typed k tree)) →
+pub word-ok : (old new : Parser) (depth : ℕ) (wanted : TokenKind) (t : Token) (tree : TypeTree) (ty : Ty) → depth ≤ 100 → Expected wanted old new (Ok t) → type_first tree ≡ t → ((k : TypeFor) → step_type k t wanted ≡ Some (typed k tree)) →
     ((text : List ℕ) (s : Listing) → type_of text tree s ≡ (ty, s)) → TypeRead depth old new ty
-word-ok old new depth wanted t tree ty le h goes m = record {
+word-ok old new depth wanted t tree ty le h at goes m = record {
   tree = tree;
+  first = rw at h.0;
   is = sym (ap (λ (x : Ty × Listing). x.0) (m old.text.now old.program));
   program = h.2.program ∙ sym (ap (λ (x : Ty × Listing). x.1) (m old.text.now old.program));
   leads = λ k lv. takes old new wanted t (State.type_due k) (typed k tree) h (goes k) (omega arith);
@@ -47,6 +48,7 @@ reference-err old mid new depth p t e le h r = λ k lv. refused (takes old mid (
 pub reference-ok : (old mid new : Parser) (depth : ℕ) (p : Perm) (t : Token) (ty : Ty) → depth ≤ 100 → Expected (perm_word p) old mid (Ok t) → ReadsShape depth p mid new (Ok ty) → ReadsType depth old new (Ok ty)
 reference-ok old mid new depth p t ty le h g = record {
   tree = g.tree t;
+  first = rw (g.first t) h.0;
   is = g.is t ∙ rw (h.2.text, h.2.program) refl;
   program = g.program t ∙ rw (h.2.text, h.2.program) refl;
   leads = λ k lv. via (takes old mid (perm_word p) t (State.type_due k) (State.perm_seen k p t) h (perm-seen k p t) (omega arith)) (g.leads k t lv);
@@ -70,6 +72,7 @@ object-missing old new depth p e no_long h = λ k word lv.
 pub object-ok : (old mid named new : Parser) (depth : ℕ) (p : Perm) (t : Token) (i : Ident) → depth ≤ 100 → Expected kind.Name old mid (Ok t) → Named t mid named (Ok i) → Mentioned i named new (Ok tt) → ShapeRead depth p old new (Ref p (Class i.name))
 object-ok old mid named new depth p t i le h n m = record {
   tree = λ word. TypeTree.object_type p word t;
+  first = λ word. refl;
   is = λ word. let same : i ≡ (ident old.text.now t old.program).0 = n.0 ∙ rw (h.2.text, h.2.program) refl in ap (λ (x : Ident). Ref p (Class x.name)) same;
   program = λ word. m.0 ∙ rw (n.0, n.1, h.2.text, h.2.program) refl;
   leads = λ k word lv.
@@ -115,6 +118,7 @@ pub array-ok : (old mid mid2 new : Parser) (depth : ℕ) (p : Perm) (long openin
     ShapeRead depth p old new (Ref p Array)
 array-ok old mid mid2 new depth p long opening closing le h o g = record {
   tree = λ word. TypeTree.array_type p word long opening closing;
+  first = λ word. refl;
   is = λ word. refl;
   program = λ word. g.2.program ∙ o.2.program ∙ h.2.program;
   leads = λ k word lv.

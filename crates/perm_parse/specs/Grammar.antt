@@ -9,6 +9,7 @@ use Rattle.perm_tree.specs.declared.ast.BinaryOp.TheVariants as op
 use Rattle.perm_tree.specs.declared.tokens.Token.{Token}
 use Rattle.perm_tree.specs.declared.tokens.TokenKind.{TokenKind}
 use Rattle.perm_tree.specs.declared.tokens.TokenKind.TheVariants as kind
+pub use Rattle.perm_tree.specs.Canonical.{level}
 
 -- a token of this kind
 abbrev pub Is : TokenKind → Token → Type 0
@@ -78,22 +79,6 @@ sign op.Equal = kind.Equal
 sign op.Differs = kind.Differs
 sign op.And = kind.And
 sign op.Or = kind.Or
-
--- from tightest to loosest
-abbrev pub level : BinaryOp → ℕ
-level op.Mul = 1
-level op.Div = 1
-level op.Rem = 1
-level op.Plus = 2
-level op.Minus = 2
-level op.Less = 3
-level op.AtMost = 3
-level op.Greater = 3
-level op.AtLeast = 3
-level op.Equal = 4
-level op.Differs = 4
-level op.And = 5
-level op.Or = 6
 
 -- how loosely the outermost operator binds: 0 for a Unary
 abbrev pub looseness : ExprTree → ℕ

@@ -1,9 +1,12 @@
+pub mod Answers
 pub mod Grammar
 pub mod Levels
-pub mod States
 pub mod Machine
 pub mod Meaning
 pub mod Parses
-pub mod Answers
-pub mod Tokens
 pub mod Reading
+pub mod ReadingMembers
+pub mod ReadsBack
+pub mod SameButSpans
+pub mod States
+pub mod Tokens

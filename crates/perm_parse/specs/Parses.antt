@@ -1,6 +1,8 @@
 -- When a list of tokens is a program, and which token is the first that isn't part of one.
-use Rattle.std.specs.Prelude.{◌≡◌, ℕ, ◌+◌, ◌<◌, ◌≤◌, List, [], ◌∷◌, ◌++◌, length, take}
+use Rattle.std.specs.Prelude.{◌≡◌, ℕ, ◌+◌, ◌<◌, ◌≤◌, ◌⊎◌, List, [], ◌∷◌, ◌++◌, length, take}
 use Rattle.perm_tree.specs.Places.{Listing}
+use Rattle.perm_tree.specs.declared.errors.ParseError.{ParseError}
+use Rattle.perm_tree.specs.declared.errors.ParseError.TheVariants.{Unexpected, TooDeep, NoMemory}
 use Rattle.perm_tree.specs.declared.tokens.Token.{Token}
 use Rattle.perm_parse.specs.Grammar.{Classes, IsProgram, program_text}
 use Rattle.perm_parse.specs.Levels.{program_levels}
@@ -48,3 +50,21 @@ pub record IsTooDeepAt (tokens : List Token) (place : ℕ) : Type 0 where
   pub here : length before ≡ place
   pub shallow : Shallow before
   pub deep : deepest < level
+
+-- the token at this place is the first that is refused, and no program continues with it; a token before it that is too deep would be refused first
+pub record IsUnexpected (tokens : List Token) (place : ℕ) : Type 0 where
+  pub dead : IsFirstDead tokens place
+  pub first : (deep : ℕ) → IsTooDeepAt tokens deep → ⊥
+
+-- the tokens are refused so
+abbrev pub IsRefused : List Token → ParseError → Type 0
+IsRefused tokens (Unexpected place) = IsUnexpected tokens place
+IsRefused tokens (TooDeep place) = IsTooDeepAt tokens place
+IsRefused tokens NoMemory = ⊥
+
+-- the tokens are a program or have a refusal, and no other one
+pub record HasOneAnswer (text : List ℕ) (tokens : List Token) : Type 0 where
+  pub some : ((program : Listing) × Parses text tokens program) ⊎ ((e : ParseError) × IsRefused tokens e)
+  pub programs : (p q : Listing) → Parses text tokens p → Parses text tokens q → p ≡ q
+  pub refusals : (e f : ParseError) → IsRefused tokens e → IsRefused tokens f → e ≡ f
+  pub apart : (p : Listing) (e : ParseError) → Parses text tokens p → IsRefused tokens e → ⊥

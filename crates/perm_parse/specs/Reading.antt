@@ -1,7 +1,8 @@
 -- What a method of the parser does, said by the reading of the tokens that are left.
-use Rattle.std.specs.Prelude.{◌≡◌, ℕ, ◌+◌, ◌<◌, ◌≤◌, List, [], ◌∷◌, ◌++◌, slice_get, drop, length, Option, Some, None, Result, Ok, Err, ◌==◌, if◌then◌else◌}
+use Rattle.std.specs.Prelude.{◌≡◌, ℕ, ◌+◌, ◌<◌, ◌≤◌, List, [], slice_get, drop, length, Option, Some, None, Result, Ok, Err, ◌==◌, if◌then◌else◌, Bool as Boolean, true, false}
 use Rattle.perm_tree.specs.declared.ast.Perm.{Perm}
 use Rattle.perm_tree.specs.declared.ast.Stmt.{Stmt}
+use Rattle.perm_tree.specs.declared.ast.StmtKind.{StmtKind}
 use Rattle.perm_tree.specs.declared.ast.Ty.{Ty}
 use Rattle.perm_tree.specs.declared.errors.ParseError.{ParseError}
 use Rattle.perm_tree.specs.declared.errors.ParseError.TheVariants.{Unexpected, TooDeep, NoMemory}
@@ -9,16 +10,19 @@ use Rattle.perm_tree.specs.declared.tokens.Token.{Token}
 use Rattle.perm_tree.specs.declared.tokens.TokenKind.{TokenKind}
 use Rattle.perm_tree.specs.declared.tokens.TokenKind.TheVariants as kind
 use Rattle.perm_parse.specs.declared.parser.Parser.{Parser}
+use Rattle.perm_parse.specs.declared.parser.LocalHead.{LocalHead}
 use Rattle.perm_parse.specs.declared.parser.Value.{Value}
+use Rattle.perm_parse.specs.declared.parser.Braced.{Braced}
+use Rattle.perm_parse.specs.declared.parser.Test.{Test}
 use Rattle.perm_tree.specs.declared.ast.Arg.{Arg}
 use Rattle.perm_tree.specs.declared.ast.BinaryOp.{BinaryOp}
 use Rattle.perm_tree.specs.declared.ast.Call.{Call}
 use Rattle.perm_tree.specs.declared.ast.Expr.{Expr}
 use Rattle.perm_tree.specs.declared.ast.Ident.{Ident}
-use Rattle.perm_parse.specs.Grammar.{Is, IsVar, TypeTree, ExprTree, ArgTree, Args, RhsTree, StmtTree, Stmts, level, CallTree, RecvTree}
-use Rattle.perm_parse.specs.States.{State, Pending, Purpose, ArgFor, ArgsPart, CallPart, TypeFor, Assigning, Outer, Open, Room, level_purpose, level_pending, level_arg_for, level_call_part, level_type_for, level_assigning, level_outer, CallFor, level_call_for}
-use Rattle.perm_parse.specs.Machine.{op_of, push_arg, close_call, typed, assigned, gives_receiver}
-use Rattle.perm_parse.specs.Meaning.{named, ident, var, push_expr, expr_of, arg_of, arg_list_of, args_of, type_of, push_mention, rhs_of, head_last, stmt_of, push_stmt, call_of}
+use Rattle.perm_parse.specs.Grammar.{Is, IsVar, TypeTree, ExprTree, ArgTree, Args, RhsTree, StmtTree, Stmts, level, CallTree, RecvTree, BlockTree}
+use Rattle.perm_parse.specs.States.{State, Pending, Purpose, ArgFor, ArgsPart, CallPart, TypeFor, Assigning, Outer, Open, Room, level_purpose, level_pending, level_arg_for, level_call_part, level_type_for, level_assigning, level_open, level_outer, CallFor, level_call_for, Lead, Wanted, level_state}
+use Rattle.perm_parse.specs.Machine.{op_of, push_arg, close_call, typed, assigned, gives_receiver, enter, closed, finish}
+use Rattle.perm_parse.specs.Meaning.{named, ident, var, push_expr, expr_of, arg_of, arg_list_of, args_of, type_of, type_first, push_mention, rhs_of, head_last, stmt_of, push_stmt, simple, call_of, stmts_of, block_of, block_last}
 use Rattle.perm_parse.specs.Parses.{deepest}
 use Rattle.perm_parse.specs.Answers.{Answer, read_from, unexpected, too_deep}
 
@@ -83,11 +87,6 @@ pub record IsHere (old new : Parser) : Type 0 where
 abbrev pub Pushed : Expr → Parser → Parser → Result ℕ ParseError → Type 0
 Pushed e old new (Ok n) = (n ≡ length old.program.exprs) × (new.program ≡ (push_expr e old.program).1) × IsHere old new
 Pushed e old new (Err err) = err ≡ NoMemory
-
--- a name is added, and this is its number
-abbrev pub Added : List ℕ → Parser → Parser → Result ℕ ParseError → Type 0
-Added name old new (Ok n) = (n ≡ length old.program.names) × (new.program ≡ record old.program { names = old.program.names ++ name ∷ [] }) × IsHere old new
-Added name old new (Err err) = err ≡ NoMemory
 
 -- the name of a token has this number
 abbrev pub Numbered : Token → Parser → Parser → Result ℕ ParseError → Type 0
@@ -211,6 +210,7 @@ ReadsGiven depth old new (Err e) = (k : CallFor) (opening word : Token) → leve
 -- the class's name, or `long[]`, was read behind the word of a permission, whatever the type is for
 pub record ShapeRead (depth : ℕ) (p : Perm) (old new : Parser) (t : Ty) : Type 0 where
   pub tree : Token → TypeTree
+  pub first : (word : Token) → type_first (tree word) ≡ word
   pub is : (word : Token) → t ≡ (type_of old.text.now (tree word) old.program).0
   pub program : (word : Token) → new.program ≡ (type_of old.text.now (tree word) old.program).1
   pub leads : (k : TypeFor) (word : Token) → level_type_for k ≡ depth → Leads old (State.perm_seen k p word) new (typed k (tree word))
@@ -222,6 +222,7 @@ ReadsShape depth p old new (Err e) = (k : TypeFor) (word : Token) → level_type
 -- a type was read, whatever it is for
 pub record TypeRead (depth : ℕ) (old new : Parser) (t : Ty) : Type 0 where
   pub tree : TypeTree
+  pub first : Next old (type_first tree)
   pub is : t ≡ (type_of old.text.now tree old.program).0
   pub program : new.program ≡ (type_of old.text.now tree old.program).1
   pub leads : (k : TypeFor) → level_type_for k ≡ depth → Leads old (State.type_due k) new (typed k tree)
@@ -229,6 +230,34 @@ pub record TypeRead (depth : ℕ) (old new : Parser) (t : Ty) : Type 0 where
 abbrev pub ReadsType : ℕ → Parser → Parser → Result Ty ParseError → Type 0
 ReadsType depth old new (Ok t) = TypeRead depth old new t
 ReadsType depth old new (Err e) = (k : TypeFor) → level_type_for k ≡ depth → Refuses old (State.type_due k) e
+
+-- a word that begins a type
+abbrev pub BeginsType : TokenKind → Type 0
+BeginsType kind.Long = Unit {0}
+BeginsType kind.Bool = Unit {0}
+BeginsType kind.Isolated = Unit {0}
+BeginsType kind.Immutable = Unit {0}
+BeginsType kind.Readable = Unit {0}
+BeginsType kind.Writable = Unit {0}
+BeginsType _ = ⊥
+
+-- a type comes next
+abbrev pub IsNextType : Parser → Type 0
+IsNextType p = (t : Token) × (Next p t × BeginsType t.kind)
+
+-- the type and the name of a local variable were read, where a statement begins
+pub record LocalRead (depth : ℕ) (old new : Parser) (h : LocalHead) : Type 0 where
+  pub tree : TypeTree
+  pub word : Token
+  pub ty : h.ty ≡ (type_of old.text.now tree old.program).0
+  pub name : h.name ≡ (ident old.text.now word (type_of old.text.now tree old.program).1).0
+  pub program : new.program ≡ (ident old.text.now word (type_of old.text.now tree old.program).1).1
+  pub first : h.first ≡ type_first tree
+  pub leads : (o : Open) → level_open o ≡ depth → Leads old (State.listing o) new (State.local_named o tree word)
+
+abbrev pub ReadsLocal : ℕ → Parser → Parser → Result LocalHead ParseError → Type 0
+ReadsLocal depth old new (Ok h) = LocalRead depth old new h
+ReadsLocal depth old new (Err e) = (o : Open) → level_open o ≡ depth → Refuses old (State.listing o) e
 
 -- ---- right sides
 
@@ -274,6 +303,22 @@ abbrev pub PushedStmt : Stmt → Parser → Parser → Result ℕ ParseError →
 PushedStmt x old new (Ok n) = (n ≡ length old.program.stmts) × (new.program ≡ (push_stmt x old.program).1) × IsHere old new
 PushedStmt x old new (Err err) = err ≡ NoMemory
 
+-- the semicolon of a statement with no block was taken, and the statement is added at this place
+pub record StmtEnded (first : Token) (k : StmtKind) (old new : Parser) (n : ℕ) : Type 0 where
+  pub end : Token
+  pub next : Next old end
+  pub is : Is kind.Semicolon end
+  pub tokens : new.tokens ≡ old.tokens
+  pub at : new.at ≡ old.at + 1
+  pub place : n ≡ length old.program.stmts
+  pub program : new.program ≡ (push_stmt (simple first end k) old.program).1
+
+abbrev pub EndsStmt : Token → StmtKind → Parser → Parser → Result ℕ ParseError → Type 0
+EndsStmt first k old new (Ok n) = StmtEnded first k old new n
+EndsStmt first k old new (Err (Unexpected i)) = (i ≡ old.at) × IsNotNext kind.Semicolon old
+EndsStmt first k old new (Err (TooDeep i)) = ⊥
+EndsStmt first k old new (Err NoMemory) = Unit {0}
+
 -- a statement was read behind others, whatever blocks stand round it
 pub record StmtRead (depth : ℕ) (old new : Parser) (n : ℕ) : Type 0 where
   pub tree : StmtTree
@@ -284,3 +329,85 @@ pub record StmtRead (depth : ℕ) (old new : Parser) (n : ℕ) : Type 0 where
 abbrev pub ReadsStmt : ℕ → Parser → Parser → Result ℕ ParseError → Type 0
 ReadsStmt depth old new (Ok n) = StmtRead depth old new n
 ReadsStmt depth old new (Err e) = (u : Outer) (b : Stmts) → level_outer u ≡ depth → Refuses old (State.listing (Open.at u b)) e
+
+-- ---- lists of statements and blocks
+
+-- whether a statement begins with a token of this kind
+abbrev pub begins_stmt : TokenKind → Boolean
+begins_stmt kind.Name = true
+begins_stmt kind.This = true
+begins_stmt kind.OpenParen = true
+begins_stmt kind.Long = true
+begins_stmt kind.Bool = true
+begins_stmt kind.Isolated = true
+begins_stmt kind.Immutable = true
+begins_stmt kind.Readable = true
+begins_stmt kind.Writable = true
+begins_stmt kind.Print = true
+begins_stmt kind.If = true
+begins_stmt kind.While = true
+begins_stmt kind.Par = true
+begins_stmt _ = false
+
+-- a token comes next that begins a statement
+abbrev pub IsBegun : Parser → Type 0
+IsBegun p = (t : Token) × (Next p t × (begins_stmt t.kind ≡ true))
+
+-- the next token begins no statement
+abbrev pub IsEnded : Parser → Type 0
+IsEnded p = (t : Token) → Next p t → begins_stmt t.kind ≡ false
+
+-- statements were read, whatever blocks stand round them
+pub record StmtsRead (depth : ℕ) (old new : Parser) (list : List ℕ) : Type 0 where
+  pub tree : Stmts
+  pub is : list ≡ (stmts_of old.text.now tree old.program).0
+  pub program : new.program ≡ (stmts_of old.text.now tree old.program).1
+  pub leads : (u : Outer) → level_outer u ≡ depth → Leads old (State.listing (Open.at u Stmts.no_stmts)) new (State.listing (Open.at u tree))
+
+-- they were read, or this is the refusal
+abbrev pub ReadsStmts : ℕ → Parser → Parser → Result (List ℕ) ParseError → Type 0
+ReadsStmts depth old new (Ok list) = StmtsRead depth old new list
+ReadsStmts depth old new (Err e) = (u : Outer) → level_outer u ≡ depth → Refuses old (State.listing (Open.at u Stmts.no_stmts)) e
+
+-- the brace that closes the block of this statement leads to this state, whatever is in the block
+abbrev pub Closes : Outer → Stmts → Lead → (BlockTree → State) → Type 0
+Closes u b lead next = (a : BlockTree) → closed u b lead a ≡ Some (next a)
+
+-- a block was read, whatever statement it is part of
+pub record BlockRead (depth : ℕ) (old new : Parser) (v : Braced) : Type 0 where
+  pub tree : BlockTree
+  pub is : v.block ≡ (block_of old.text.now tree old.program).0
+  pub program : new.program ≡ (block_of old.text.now tree old.program).1
+  pub last : v.closing ≡ block_last tree
+  pub leads : (u : Outer) (b : Stmts) (lead : Lead) (next : BlockTree → State) → level_outer u ≡ depth → Closes u b lead next → Leads old (enter (Open.at u b) lead) new (next tree)
+
+-- it was read, or this is the refusal
+abbrev pub ReadsBlock : ℕ → Parser → Parser → Result Braced ParseError → Type 0
+ReadsBlock depth old new (Ok v) = BlockRead depth old new v
+ReadsBlock depth old new (Err e) = (u : Outer) (b : Stmts) (lead : Lead) (next : BlockTree → State) → level_outer u ≡ depth → Closes u b lead next → Refuses old (enter (Open.at u b) lead) e
+
+-- an expression in parentheses, read for this purpose: it stands one level deeper, and its closing parenthesis leads to this state
+pub record Between (depth : ℕ) (purpose : Token → Purpose) (next : Token → ExprTree → Token → State) : Type 0 where
+  pub level : (opening : Token) → level_purpose (purpose opening) ≡ depth + 1
+  pub behind : (opening : Token) (e : ExprTree) (t : Token) → level_state (next opening e t) ≡ depth
+  pub closes : (opening : Token) (e : ExprTree) (t : Token) → finish (purpose opening) e t kind.CloseParen ≡ Some (next opening e t)
+  pub others : (opening : Token) (e : ExprTree) (t : Token) (other : TokenKind) → (other ≡ kind.CloseParen → ⊥) → finish (purpose opening) e t other ≡ None
+
+-- where the opening parenthesis of a condition has to come
+abbrev pub test_due : (List Token → List Token) → ℕ → (Token → Purpose) → State
+test_due so_far depth purpose = State.expects so_far depth (Wanted.exactly kind.OpenParen) (λ opening. State.operand [] (purpose opening))
+
+-- a condition in parentheses was read, whatever it is for
+pub record TestRead (depth : ℕ) (old new : Parser) (v : Test) : Type 0 where
+  pub opening : Token
+  pub tree : ExprTree
+  pub place : v.value ≡ (expr_of old.text.now tree old.program).0
+  pub program : new.program ≡ (expr_of old.text.now tree old.program).1
+  pub leads : (so_far : List Token → List Token) (d : ℕ) (purpose : Token → Purpose) (next : Token → ExprTree → Token → State) → Between depth purpose next →
+      Leads old (test_due so_far d purpose) new (next opening tree v.closing)
+
+-- it was read, or this is the refusal
+abbrev pub ReadsTest : ℕ → Parser → Parser → Result Test ParseError → Type 0
+ReadsTest depth old new (Ok v) = TestRead depth old new v
+ReadsTest depth old new (Err e) = (so_far : List Token → List Token) (d : ℕ) (purpose : Token → Purpose) (next : Token → ExprTree → Token → State) → Between depth purpose next →
+    Refuses old (test_due so_far d purpose) e

@@ -1,9 +1,9 @@
 //! The next token, and what is added to the program.
 
-ghost use Rattle.std.specs.Prelude.{◌≡◌, ℕ, ◌+◌, ◌<◌, ◌≤◌, [], ◌∷◌, ◌++◌, length, slice_get, IfOk, position, bytes_eq, slice_range};
+ghost use Rattle.std.specs.Prelude.{◌≡◌, ℕ, ◌+◌, ◌<◌, ◌≤◌, length, slice_get, IfOk, position, bytes_eq};
 ghost use Rattle.std.specs.Bool.{OnTrue, OnFalse};
 ghost use Rattle.perm_tree.specs.Places.{ExprBelow, KindPlaced};
-ghost use Rattle.perm_parse.specs.Reading.{Added, Expected, ExpectedVar, IsAhead, IsNext, IsNotNext, Mentioned, Named, Numbered, Onward, Opened, Pushed, PushedStmt, Variable};
+ghost use Rattle.perm_parse.specs.Reading.{Expected, ExpectedVar, IsAhead, IsNext, IsNotNext, IsNotSecond, IsSecond, Mentioned, Named, Numbered, Onward, Opened, Pushed, PushedStmt, Variable};
 
 use crate::parser::Parser;
 use perm_tree::ast::{Expr, Ident, Stmt};
@@ -75,6 +75,24 @@ impl<'a> Parser<'a> {
         }
     }
 
+    /// The token behind the next one.
+    pub fn second(&self) -> Option<Token>
+        ensures { result ≡ slice_get self.now.tokens.now (self.now.at + 1) }
+    {
+        self.tokens.get(self.at + 1).copied()
+    }
+
+    /// Whether a token of this kind comes second.
+    pub fn second_is(&self, wanted: TokenKind) -> bool
+        ensures yes { OnTrue result (IsSecond wanted self.now) }
+        ensures no { OnFalse result (IsNotSecond wanted self.now) }
+    {
+        match self.second() {
+            Some(token) => token.kind == wanted,
+            None => false,
+        }
+    }
+
     /// Takes a name or `this`, which has to come next.
     pub fn variable(&mut self) -> Result<Token, ParseError>
         ensures expected { ExpectedVar self.old self.new result }
@@ -130,25 +148,7 @@ impl<'a> Parser<'a> {
     pub fn known(&self, name: &[u8]) -> Option<usize>
         ensures { result ≡ position (λ other. bytes_eq other name.now) self.now.program.names }
     {
-        self.program
-            .names()
-            .iter()
-            .position(|other| other.as_slice() == name)
-    }
-
-    /// Adds the name of a token, and answers its number.
-    pub fn add_name(&mut self, token: Token) -> Result<u32, ParseError>
-        requires start { token.span.start ≤ token.span.end }
-        requires end { token.span.end ≤ length self.old.text.now }
-        ensures added { Added (slice_range self.old.text.now token.span.start token.span.end) self.old self.new result }
-        ensures onward { Onward self.old self.new }
-    {
-        let bytes = self.text[token.span.start as usize..token.span.end as usize]
-            .to_vec(self.alloc)
-            .map_err(|_| ParseError::NoMemory)?;
-        self.program
-            .push_name(Name::from_vec(bytes))
-            .map_err(|_| ParseError::NoMemory)
+        self.names.get_index_of(name)
     }
 
     /// The number of the name of a token.
@@ -159,10 +159,17 @@ impl<'a> Parser<'a> {
         ensures onward { Onward self.old self.new }
     {
         let bytes = &self.text[token.span.start as usize..token.span.end as usize];
-        let Some(at) = self.known(bytes) else {
-            return self.add_name(token);
-        };
-        u32::try_from(at).map_err(|_| ParseError::NoMemory)
+        if let Some(at) = self.known(bytes) {
+            return u32::try_from(at).map_err(|_| ParseError::NoMemory);
+        }
+        let name = bytes.to_vec(self.alloc).map_err(|_| ParseError::NoMemory)?;
+        self.names.reserve(1).map_err(|_| ParseError::NoMemory)?;
+        let number = self
+            .program
+            .push_name(Name::from_vec(name))
+            .map_err(|_| ParseError::NoMemory)?;
+        self.names.insert(bytes).unwrap();
+        Ok(number)
     }
 
     /// A name, with its number.

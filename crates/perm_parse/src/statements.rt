@@ -10,7 +10,7 @@ use perm_tree::errors::ParseError;
 use perm_tree::tokens::{Token, TokenKind};
 
 /// From the first byte of one token to the last of another.
-fn span_over(first: Token, last: Token) -> Span
+pub fn span_over(first: Token, last: Token) -> Span
     ensures { result ≡ span_over first last }
 {
     Span {
@@ -27,6 +27,7 @@ impl<'a> Parser<'a> {
         ensures reads { ReadsStmt depth self.old self.new result }
         ensures onward { Onward self.old self.new }
         ensures below { IfOk result (λ n. n < length self.new.program.stmts) }
+        ensures ahead { IfOk result (λ n. self.old.at < self.new.at) }
     {
         let word = self.expect(TokenKind::Print)?;
         let value = self.binary(depth, 6)?;

@@ -180,4 +180,49 @@ impl<'a> Parser<'a> {
             end,
         })
     }
+
+    /// A right side that begins with `new`
+    pub fn new_value(&mut self, depth: usize) -> Result<Value, ParseError>
+        requires depth { depth ≤ 100 }
+        requires next { IsNext TokenKind.New self.old }
+        ensures reads { ReadsValue depth self.old self.new result }
+        ensures onward { Onward self.old self.new }
+        ensures placed { IfOk result (λ v. RhsPlaced (length self.new.program.exprs) (length self.new.program.stmts) v.rhs) }
+    {
+        if self.second_is(TokenKind::Long) {
+            return self.array_value(depth);
+        }
+        self.object_value(depth)
+    }
+
+    /// A right side that begins with a variable
+    pub fn var_value(&mut self, depth: usize) -> Result<Value, ParseError>
+        requires depth { depth ≤ 100 }
+        requires next { IsNextVar self.old }
+        ensures reads { ReadsValue depth self.old self.new result }
+        ensures onward { Onward self.old self.new }
+        ensures placed { IfOk result (λ v. RhsPlaced (length self.new.program.exprs) (length self.new.program.stmts) v.rhs) }
+    {
+        if self.second_is(TokenKind::Dot) {
+            return self.member_value(depth);
+        }
+        if self.second_is(TokenKind::OpenBracket) {
+            return self.item_value(depth);
+        }
+        self.plain_value(depth)
+    }
+
+    /// A right side that begins with a parenthesis
+    pub fn paren_value(&mut self, depth: usize) -> Result<Value, ParseError>
+        requires depth { depth ≤ 100 }
+        requires next { IsNext TokenKind.OpenParen self.old }
+        ensures reads { ReadsValue depth self.old self.new result }
+        ensures onward { Onward self.old self.new }
+        ensures placed { IfOk result (λ v. RhsPlaced (length self.new.program.exprs) (length self.new.program.stmts) v.rhs) }
+    {
+        if self.second_is(TokenKind::Consume) {
+            return self.given_value(depth);
+        }
+        self.plain_value(depth)
+    }
 }

@@ -19,14 +19,10 @@ use Rattle.perm_tree.specs.Lookup.{is_class_word}
 use Rattle.perm_tree.specs.Names.{is_good_run}
 use Rattle.perm_tree.specs.Spelling.{main_word, run_word, is_word}
 use Rattle.perm_tree.specs.UnitTables.{Tables}
+use Rattle.perm_step.specs.declared.straight.Holds.{Holds}
+pub use Rattle.perm_step.specs.declared.straight.Holds.TheVariants.{AnObject, ANumber, Other}
 
 -- ---------- code ----------
--- what a variable holds: an object of Main, a number, or something that no straight statement reads
-pub data Holds : Type 0 where
-  AnObject : Holds
-  ANumber : Holds
-  Other : Holds
-
 -- a number as it stands in a text
 abbrev pub IsNumber : Term → Type 0
 IsNumber (LongLit (pos n)) = n < 2 ^ 63

@@ -1,5 +1,5 @@
 -- What a caller is told of a run.
-use Rattle.std.specs.Prelude.{◌≡◌, ℕ, []}
+use Rattle.std.specs.Prelude.{◌≡◌, []}
 use Rattle.perm_meaning.specs.declared.End.TheVariants.{HeapFull}
 use Rattle.perm_meaning.specs.declared.Outcome.{Outcome}
 use Rattle.perm_meaning.specs.Outcome as meaning

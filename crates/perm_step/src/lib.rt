@@ -5,5 +5,7 @@ mod alone;
 mod eval;
 mod machine;
 mod scope;
+mod straight;
 
 pub use alone::run_alone;
+pub use straight::{Holds, is_straight};

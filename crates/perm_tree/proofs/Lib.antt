@@ -1,5 +1,6 @@
 pub mod AcceptedNames
 pub mod Builder
+pub mod CanonicalRows
 pub mod CodeLaws
 pub mod CodeRows
 pub mod Entries
@@ -7,6 +8,11 @@ pub mod Lows
 pub mod MentionLaws
 pub mod NameRows
 pub mod ParPrograms
+pub mod PrintFits
+pub mod PrintMembers
+pub mod PrintStacks
+pub mod PrintSteps
+pub mod PrintTexts
 pub mod ProgramTexts
 pub mod Programs
 pub mod Pushes
@@ -14,5 +20,5 @@ pub mod ResolvedLaws
 pub mod RoutineLaws
 pub mod RunLaw
 pub mod Spelling
-pub mod StraightLists
+pub mod StableSorts
 pub mod TableLaws

@@ -1,6 +1,6 @@
 -- Words are equal where their bytes are.
-use Rattle.std.proofs.Common.{◌≡◌, ℕ, Bool, true, false, List, [], ◌∷◌, refl, eqb-true, eq-eqb}
-use Rattle.std.specs.Prelude.{◌&&◌, nat_eq}
+use Rattle.std.proofs.Common.{◌≡◌, ℕ, Bool, true, false, List, [], ◌∷◌, refl, ap, eqb-true, eq-eqb}
+use Rattle.std.specs.Prelude.{◌&&◌, nat_eq, bytes_eq}
 use Rattle.perm_tree.specs.Spelling.{same_bytes}
 
 both : (a b : Bool) → a && b ≡ true → (a ≡ true) × (b ≡ true)
@@ -20,3 +20,10 @@ same_bytes-equal (x ∷ xs) (y ∷ ys) e =
 pub same_bytes-refl : (w : List ℕ) → same_bytes w w ≡ true
 same_bytes-refl [] = refl
 same_bytes-refl (x ∷ xs) = rw (eq-eqb x x refl) (same_bytes-refl xs)
+
+-- so std tests them
+pub same_bytes-bytes_eq : (v w : List ℕ) → bytes_eq v w ≡ same_bytes v w
+same_bytes-bytes_eq [] [] = refl
+same_bytes-bytes_eq [] (y ∷ ys) = refl
+same_bytes-bytes_eq (x ∷ xs) [] = refl
+same_bytes-bytes_eq (x ∷ xs) (y ∷ ys) = ap (λ b. nat_eq x y && b) (same_bytes-bytes_eq xs ys)

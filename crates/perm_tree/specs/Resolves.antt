@@ -1,5 +1,5 @@
 -- Programs in which types name classes by their names, and the units that they are resolved to.
-use Rattle.std.specs.Prelude.{◌≡◌, ℕ, List, [], map, Some, None, option_map, slice_get, get_or}
+use Rattle.std.specs.Prelude.{◌≡◌, ◌≢◌, ℕ, AllPairs, List, [], map, Some, None, option_map, slice_get, get_or}
 use Rattle.perm_tree.specs.declared.ast.Shape.{Shape}
 use Rattle.perm_tree.specs.declared.ast.Shape.TheVariants.{Class, Array}
 use Rattle.perm_tree.specs.declared.ast.Ty.{Ty}
@@ -70,7 +70,15 @@ pub record IsResolved (u : Tables) : Type 0 where
 abbrev pub class_word : Listing → ClassDecl → List ℕ
 class_word p c = get_or p.names c.name.name []
 
+-- the words of the classes
+abbrev pub class_words : Listing → List (List ℕ)
+class_words p = map (class_word p) p.classes
+
+-- no two classes have the same word
+abbrev pub HasDistinctWords : Listing → Type 0
+HasDistinctWords p = AllPairs (λ v w. v ≢ w) (class_words p)
+
 -- a map takes the name of each class to its place
 pub record TakesNames (p : Listing) (entries : List (List ℕ × ℕ)) : Type 0 where
-  pub words : map (λ e. e.0) entries ≡ map (class_word p) p.classes
+  pub words : map (λ e. e.0) entries ≡ class_words p
   pub places : (i : ℕ) (e : List ℕ × ℕ) → slice_get entries i ≡ Some e → e.1 ≡ i

@@ -6,6 +6,7 @@ ghost use Rattle.std.specs.Cmp.Lexicographic.{nat_list_eq_equiv};
 ghost use Rattle.std.specs.Cmp.Rules.{hashing};
 ghost use Rattle.std.specs.Hash as fed;
 ghost use Rattle.std.proofs.Common.{rules};
+ghost use Rattle.perm_tree.specs.Spelling.{is_word};
 
 use crate::errors::NoMemory;
 use std::alloc::Global;
@@ -129,5 +130,15 @@ impl Hash for Name {
 
     fn hash<H: Hasher>(&self, state: &mut H) {
         self.as_slice().hash(state);
+    }
+}
+
+/// Whether the name with this number is a word. One that isn't there is empty.
+pub fn is_word(names: &[Name], word: &[u8], n: u32) -> bool
+    ensures { result ≡ is_word names.now word.now n }
+{
+    match names.get(n as usize) {
+        Some(name) => name.as_slice() == word,
+        None => word.is_empty(),
     }
 }

@@ -143,6 +143,54 @@ impl Program {
         self.lows.push(low).unwrap();
         Ok(at)
     }
+
+    /// Takes the classes and the statements out of a program. What is left has none.
+    pub fn split(self, alloc: Global) -> (Program, List<ClassDecl>, List<Stmt>)
+        ensures rest { result.0 ≡ record self { classes = []; stmts = [] } }
+        ensures classes { result.1 ≡ self.classes }
+        ensures stmts { result.2 ≡ self.stmts }
+        ensures placed { IsPlaced self }
+    {
+        let Program {
+            names,
+            classes,
+            stmts,
+            exprs,
+            mentions,
+            lows,
+        } = self;
+        let rest = Program {
+            names,
+            classes: List::new(alloc),
+            stmts: List::new(alloc),
+            exprs,
+            mentions,
+            lows,
+        };
+        (rest, classes, stmts)
+    }
+
+    /// The program with other classes and statements. Takes no memory.
+    pub fn with(self, classes: List<ClassDecl>, stmts: List<Stmt>) -> Program
+        requires { IsPlaced (record self { classes = classes; stmts = stmts }) }
+        ensures { result ≡ record self { classes = classes; stmts = stmts } }
+    {
+        let Program {
+            names,
+            exprs,
+            mentions,
+            lows,
+            ..
+        } = self;
+        Program {
+            names,
+            classes,
+            stmts,
+            exprs,
+            mentions,
+            lows,
+        }
+    }
 }
 
 /// The place behind so many elements. More than a place can name is more than memory is wanted for.

@@ -1,6 +1,7 @@
 //! Programs whose names are resolved.
 
 ghost use Rattle.std.specs.Prelude.{◌≡◌};
+ghost use Rattle.perm_tree.specs.Resolves.{HasDistinctWords, IsResolved, TakesNames};
 
 use crate::ast::{Span, Ty};
 use crate::list::{List, Name};
@@ -34,15 +35,20 @@ pub struct Unit {
 }
 
 impl Model for Unit {
+    ghost use Rattle.perm_tree.specs.Resolves.{HasDistinctWords, IsResolved, TakesNames};
     ghost use Rattle.perm_tree.specs.UnitTables.{Tables};
 
     ghost Value = { Tables };
 
     ghost view = { λ u. record { program = u.program; tables = u.tables } };
+
+    ghost invariant = { λ u. IsResolved (record { program = u.program; tables = u.tables }) × (HasDistinctWords u.program → TakesNames u.program u.classes.entries) };
 }
 
 impl Unit {
     pub fn new(program: Program, classes: IndexMap<Name, u32>, tables: List<MethodTable>) -> Unit
+        requires resolved { IsResolved (record { program = program; tables = tables }) }
+        requires names { HasDistinctWords program → TakesNames program classes.entries }
         ensures { result ≡ record { program = program; tables = tables } }
     {
         Unit {
@@ -56,6 +62,13 @@ impl Unit {
         ensures { result.now ≡ self.now.program }
     {
         &self.program
+    }
+
+    /// What every unit keeps.
+    pub fn resolved(&self)
+        ensures { IsResolved self.now }
+    {
+        let _ = &self.program;
     }
 
     pub fn tables(&self) -> &[MethodTable]

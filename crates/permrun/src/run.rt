@@ -1,16 +1,24 @@
 //! The one call that does all that the program does.
 
-ghost use Rattle.std.specs.Prelude.{◌≡◌, ◌≤◌, length, map, IfOk};
+ghost use Rattle.std.specs.Prelude.{◌≡◌, ◌≤◌, ℕ, List, length, map, IfOk};
 ghost use Rattle.std.specs.Option.{option_copied};
-ghost use Rattle.permrun.specs.declared.answer.Answer.{Answer};
-ghost use Rattle.permrun.specs.Causes.{named_path, is_option, IsCaused, IsOfProgram, IsWritten};
+ghost use Rattle.perm_base.specs.Counts.{Rose};
+ghost use Rattle.perm_base.specs.Pieces.{appended};
+ghost use Rattle.perm_tree.specs.TextPlaces.{IsPlaceOf};
+ghost use Rattle.permrun.specs.declared.run.Reply.{Reply};
+ghost use Rattle.permrun.specs.Causes.{named_path, is_option, reply_status, reply_text, IsCaused, IsPlain, IsWritten};
+ghost use Rattle.permrun.specs.Programs.{begins_at, lex_place, syntax_place, table_place, IsReplyTo};
 
-use crate::answer::{Answer, status_of, text_of};
+use perm_answer::{Answer, RunText, Which, fill, status_of, text_room};
 use perm_base::{ReadFault, Shelf, Sink, read_text, write_all};
+use perm_lex::lex;
 use perm_meaning::End;
-use perm_step::run_alone;
-use perm_tree::errors::NoMemory;
-use perm_tree::straight::{StraightFault, read_straight};
+use perm_parse::parse;
+use perm_step::{is_straight, run_alone};
+use perm_table::resolve;
+use perm_tree::errors::{LexError, NoMemory, ParseError, TableError};
+use perm_tree::place::{Place, place_of};
+use perm_tree::tokens::Token;
 use std::alloc::Global;
 
 /// The most bytes of a program's text.
@@ -24,6 +32,16 @@ const DEFAULT_HEAP: u64 = 1 << 20;
 /// The status of a text that wasn't written to its end.
 const WRITE_FAULT: u8 = 5;
 
+/// The status of a program for which no run is built.
+const UNBUILT: u8 = 9;
+
+/// What a call comes to. `Unbuilt` is a program without a fault so far, for which no run is built.
+#[derive(Drop)]
+pub enum Reply {
+    Told(Answer),
+    Unbuilt,
+}
+
 /// Does what the command line's words ask for, and answers the status. The words are those behind the program's name.
 pub fn run_words<F: Shelf, K: Sink>(
     alloc: Global,
@@ -31,30 +49,49 @@ pub fn run_words<F: Shelf, K: Sink>(
     shelf: &mut F,
     sink: &mut K,
 ) -> Result<u8, NoMemory>
-    ensures answer { IfOk result (λ given. (answer : Answer)
-        × IsCaused (F.told shelf.old) (F.faults shelf.old) (F.faults shelf.new) (named_path (map (λ w. w.now) words.now)) answer
-        × IsWritten (K.told sink.old) (K.told sink.new) (K.faults sink.old) (K.faults sink.new) answer given) }
+    // What is written and answered is that of a reply with its cause.
+    ensures caused { IfOk result (λ given. (reply : Reply)
+        × IsCaused (F.told shelf.old) (F.faults shelf.old) (F.faults shelf.new) (named_path (map (λ w. w.now) words.now)) reply
+        × IsWritten (K.told sink.old) (K.told sink.new) (K.faults sink.old) (K.faults sink.new) (reply_text reply) (reply_status reply) given) }
+
+    // A program of the shelf has one reply, and without a fault that is written and answered.
+    ensures complete { IfOk result (λ given. (bytes : List ℕ) (reply : Reply)
+        → IsPlain (F.told shelf.old) (named_path (map (λ w. w.now) words.now)) bytes → IsReplyTo bytes reply
+        → (Rose (F.faults shelf.old) (F.faults shelf.new) → ⊥) → (Rose (K.faults sink.old) (K.faults sink.new) → ⊥)
+        → (given ≡ reply_status reply) × (K.told sink.new ≡ appended (K.told sink.old) (reply_text reply))) }
     ensures files { F.told shelf.new ≡ F.told shelf.old }
 {
-    let answer = answer_to(alloc, words, shelf)?;
-    let text = text_of(alloc, &answer)?;
-    match write_all(sink, text.as_bytes()) {
-        Ok(()) => Ok(status_of(&answer)),
-        Err(_) => Ok(WRITE_FAULT),
+    match reply_to(alloc, words, shelf)? {
+        Reply::Told(answer) => {
+            let mut text = text_room(alloc, &answer)?;
+            fill(&mut text, &answer);
+            Ok(write(sink, text.as_slice(), status_of(&answer)))
+        }
+        Reply::Unbuilt => Ok(write(sink, b"unbuilt\n", UNBUILT)),
     }
 }
 
-fn answer_to<F: Shelf>(alloc: Global, words: &[&str], shelf: &mut F) -> Result<Answer, NoMemory>
+/// Writes a text, and answers that status, or the one of a text that wasn't written to its end.
+fn write<K: Sink>(sink: &mut K, text: &[u8], status: u8) -> u8
+    ensures { IsWritten (K.told sink.old) (K.told sink.new) (K.faults sink.old) (K.faults sink.new) text.now status result }
+{
+    match write_all(sink, text) {
+        Ok(()) => status,
+        Err(_) => WRITE_FAULT,
+    }
+}
+
+fn reply_to<F: Shelf>(alloc: Global, words: &[&str], shelf: &mut F) -> Result<Reply, NoMemory>
     ensures caused { IfOk result (IsCaused (F.told shelf.old) (F.faults shelf.old) (F.faults shelf.new) (named_path (map (λ w. w.now) words.now))) }
     ensures files { F.told shelf.new ≡ F.told shelf.old }
 {
     let Some(path) = program_path(words) else {
-        return Ok(Answer::Usage);
+        return Ok(Reply::Told(Answer::Usage));
     };
     match read_text(alloc, shelf, path, MAX_TEXT) {
         Ok(text) => run_text(alloc, text.as_slice()),
-        Err(ReadFault::Fault) => Ok(Answer::ReadFault),
-        Err(ReadFault::TooLong) => Ok(Answer::TooLong),
+        Err(ReadFault::Fault) => Ok(Reply::Told(Answer::ReadFault(Which::Program))),
+        Err(ReadFault::TooLong) => Ok(Reply::Told(Answer::TooLong(Which::Program))),
         Err(ReadFault::NoMemory) => Err(NoMemory),
     }
 }
@@ -84,19 +121,93 @@ fn begins_option(word: &[u8]) -> bool
     }
 }
 
-/// Runs a program's text without input.
-fn run_text(alloc: Global, text: &[u8]) -> Result<Answer, NoMemory>
+/// Reads a program's text and runs it without input.
+fn run_text(alloc: Global, text: &[u8]) -> Result<Reply, NoMemory>
     requires { length text.now ≤ 1048576 }
-    ensures { IfOk result IsOfProgram }
+    ensures { IfOk result (IsReplyTo text.now) }
 {
-    let unit = match read_straight(alloc, text) {
-        Ok(unit) => unit,
-        Err(StraightFault::Unbuilt) => return Ok(Answer::Unbuilt),
-        Err(StraightFault::NoMemory) => return Err(NoMemory),
+    let tokens = match lex(alloc, text) {
+        Ok(tokens) => tokens,
+        Err(LexError::NoMemory) => return Err(NoMemory),
+        Err(error) => return Ok(Reply::Told(Answer::Lex(error, lexical_place(text, error)))),
     };
+    let program = match parse(alloc, text, tokens.as_slice()) {
+        Ok(program) => program,
+        Err(ParseError::NoMemory) => return Err(NoMemory),
+        Err(error) => {
+            let place = token_place(text, tokens.as_slice(), error);
+            return Ok(Reply::Told(Answer::Syntax(error, place)));
+        }
+    };
+    let unit = match resolve(alloc, program) {
+        Ok(unit) => unit,
+        Err(TableError::NoMemory) => return Err(NoMemory),
+        Err(error) => return Ok(Reply::Told(Answer::Table(error, name_place(text, error)))),
+    };
+    if !is_straight(alloc, &unit)? {
+        return Ok(Reply::Unbuilt);
+    }
     let outcome = run_alone(alloc, &unit, &[], DEFAULT_TURNS, DEFAULT_HEAP)?;
-    Ok(match outcome.end {
-        End::Done(result) => Answer::Done(result, outcome.printed),
-        _ => Answer::Unbuilt,
-    })
+    match outcome.end {
+        End::Done(returned) => Ok(Reply::Told(Answer::Done(
+            returned,
+            RunText {
+                printed: outcome.printed,
+            },
+        ))),
+        _ => unreachable!(),
+    }
+}
+
+/// The place of a byte, or of the end of the text.
+fn place_in(text: &[u8], at: u32) -> Place
+    requires { length text.now ≤ 1048576 }
+    ensures { IsPlaceOf text.now at result }
+{
+    place_of(text, at.min(text.len() as u32))
+}
+
+/// Where a lexical refusal stands.
+fn lexical_place(text: &[u8], error: LexError) -> Place
+    requires { length text.now ≤ 1048576 }
+    ensures { IsPlaceOf text.now (lex_place error) result }
+{
+    let at = match error {
+        LexError::BadByte { at } | LexError::UnclosedComment { at } => at,
+        LexError::NumberTooLarge { span } => span.start,
+        LexError::NoMemory => 0,
+    };
+    place_in(text, at)
+}
+
+/// Where a syntactic refusal stands.
+fn token_place(text: &[u8], tokens: &[Token], error: ParseError) -> Place
+    requires { length text.now ≤ 1048576 }
+    ensures { IsPlaceOf text.now (syntax_place text.now tokens.now error) result }
+{
+    let at = match error {
+        ParseError::Unexpected { token } | ParseError::TooDeep { token } => {
+            match tokens.get(token as usize) {
+                Some(token) => token.span.start,
+                None => text.len() as u32,
+            }
+        }
+        ParseError::NoMemory => 0,
+    };
+    place_in(text, at)
+}
+
+/// Where a refusal of names stands.
+fn name_place(text: &[u8], error: TableError) -> Place
+    requires { length text.now ≤ 1048576 }
+    ensures { IsPlaceOf text.now (table_place error) result }
+{
+    let at = match error {
+        TableError::DuplicateName { span }
+        | TableError::UnknownClass { span }
+        | TableError::BadMain { span }
+        | TableError::TooMany { span, .. } => span.start,
+        TableError::NoMain | TableError::NoMemory => 0,
+    };
+    place_in(text, at)
 }

@@ -45,18 +45,55 @@ fn a_straight_program_runs(rt: HostRuntime) -> Result<(), Fail> {
     Ok(())
 }
 
+/// What a program's text comes to: the status and the text of the answer.
+fn run_of(alloc: Global, text: &[u8]) -> Result<String, Fail> {
+    let mut shelf = shelf_with(alloc, text, &[])?;
+    answer_of(alloc, &["p"], &mut shelf)
+}
+
 #[test]
-fn other_programs_are_unbuilt(rt: HostRuntime) -> Result<(), Fail> {
-    for text in [LIST, "", "class Main {", "{}();=+", "\u{0}\u{1f600}"] {
-        let mut shelf = shelf_with(rt.alloc(), text.as_bytes(), &[])?;
-        let answer = answer_of(rt.alloc(), &["p"], &mut shelf)?;
-        assert_eq!(rt; answer.as_str(), "9\nunbuilt\n", "at {text:?}");
+fn refusals_stand_at_their_places(rt: HostRuntime) -> Result<(), Fail> {
+    let cases = [
+        ("", "12\ntable NoMain\n"),
+        ("class Main { @", "10\nlex BadByte 1:14\n"),
+        ("9223372036854775808", "10\nlex NumberTooLarge 1:1\n"),
+        ("class /* Main", "10\nlex UnclosedComment 1:7\n"),
+        ("class Main {", "11\nsyntax Unexpected 1:13\n"),
+        ("{}();=+", "11\nsyntax Unexpected 1:1\n"),
+        ("class A { } class A { }", "12\ntable DuplicateName 1:19\n"),
+        ("class Main { isolated B b; }", "12\ntable UnknownClass 1:23\n"),
+        ("class Main { }", "12\ntable NoMain\n"),
+        ("class A { }\n\nclass\n A { }", "12\ntable DuplicateName 4:2\n"),
+        ("class Main { long Run() writable { return 0; } }", "12\ntable BadMain 1:19\n"),
+        (LIST, "9\nunbuilt\n"),
+    ];
+    for (text, wanted) in cases {
+        let answer = run_of(rt.alloc(), text.as_bytes())?;
+        assert_eq!(rt; answer.as_str(), wanted, "of {text:?}");
     }
     Ok(())
 }
 
+/// A `Run` that returns a number behind so many opening parentheses.
+fn nested(alloc: Global, count: usize) -> Result<Vec<u8>, AllocError> {
+    let mut text = b"class Main { long Run(immutable long[] input) writable { return ".to_vec(alloc)?;
+    for _ in 0..count {
+        text.push(b'(').map_err(|_| AllocError)?;
+    }
+    Ok(text)
+}
+
 #[test]
-fn random_bytes_are_unbuilt(rt: HostRuntime) -> Result<(), Fail> {
+fn the_level_101_is_too_deep(rt: HostRuntime) -> Result<(), Fail> {
+    let answer = run_of(rt.alloc(), nested(rt.alloc(), 99)?.as_slice())?;
+    assert_eq!(rt; answer.as_str(), "11\nsyntax TooDeep 1:163\n");
+    let answer = run_of(rt.alloc(), nested(rt.alloc(), 98)?.as_slice())?;
+    assert_eq!(rt; answer.as_str(), "11\nsyntax Unexpected 1:163\n");
+    Ok(())
+}
+
+#[test]
+fn random_bytes_have_an_answer(rt: HostRuntime) -> Result<(), Fail> {
     let mut state = 1u64;
     for _ in 0..200 {
         let mut text = Vec::new(rt.alloc());
@@ -66,9 +103,10 @@ fn random_bytes_are_unbuilt(rt: HostRuntime) -> Result<(), Fail> {
                 .wrapping_add(1_442_695_040_888_963_407);
             text.push((state >> 56) as u8)?;
         }
-        let mut shelf = shelf_with(rt.alloc(), text.as_slice(), &[])?;
-        let answer = answer_of(rt.alloc(), &["p"], &mut shelf)?;
-        assert_eq!(rt; answer.as_str(), "9\nunbuilt\n");
+        let answer = run_of(rt.alloc(), text.as_slice())?;
+        let is_lexical = answer.as_str().starts_with("10\nlex ");
+        let is_syntactic = answer.as_str().starts_with("11\nsyntax ");
+        assert!(rt; is_lexical || is_syntactic, "{answer:?}");
     }
     Ok(())
 }
@@ -98,7 +136,7 @@ fn files_that_are_not_read(rt: HostRuntime) -> Result<(), Fail> {
     assert_eq!(rt; answer.as_str(), "4\ntoo long program\n");
     let mut blank = shelf_with(alloc, vec![in alloc; b' '; 1_048_576]?.as_slice(), &[])?;
     let answer = answer_of(alloc, &["p"], &mut blank)?;
-    assert_eq!(rt; answer.as_str(), "9\nunbuilt\n");
+    assert_eq!(rt; answer.as_str(), "12\ntable NoMain\n");
     Ok(())
 }
 

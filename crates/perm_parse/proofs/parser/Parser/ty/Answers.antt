@@ -11,11 +11,11 @@ returns-in_default-clause-reads c = rw c.unexpected.ensures (type-ends c.args.se
 
 pub returns-in_ok-_word-in-Long-clause-reads : goal.returns-in_ok-_word-in-Long-clause-reads
 returns-in_ok-_word-in-Long-clause-reads c =
-    word-ok c.args.self.now c.expect.new.self c.args.depth kind.Long c.in_ok-_word-in-Long._word (TypeTree.long_type c.in_ok-_word-in-Long._word) Long c.requires c.in_ok-_word-in-Long.ensures.expected (λ k. refl) (λ text s. refl)
+    word-ok c.args.self.now c.expect.new.self c.args.depth kind.Long c.in_ok-_word-in-Long._word (TypeTree.long_type c.in_ok-_word-in-Long._word) Long c.requires c.in_ok-_word-in-Long.ensures.expected refl (λ k. refl) (λ text s. refl)
 
 pub returns-in_ok-_word-in-Bool-clause-reads : goal.returns-in_ok-_word-in-Bool-clause-reads
 returns-in_ok-_word-in-Bool-clause-reads c =
-    word-ok c.args.self.now c.expect-in-Bool.new.self c.args.depth kind.Bool c.in_ok-_word-in-Bool._word (TypeTree.bool_type c.in_ok-_word-in-Bool._word) Bool c.requires c.in_ok-_word-in-Bool.ensures.expected (λ k. refl) (λ text s. refl)
+    word-ok c.args.self.now c.expect-in-Bool.new.self c.args.depth kind.Bool c.in_ok-_word-in-Bool._word (TypeTree.bool_type c.in_ok-_word-in-Bool._word) Bool c.requires c.in_ok-_word-in-Bool.ensures.expected refl (λ k. refl) (λ text s. refl)
 
 pub returns-in_default-kind : goal.returns-in_default-kind
 returns-in_default-kind c =

@@ -1,0 +1,100 @@
+//! Classes, read by descent. A class stands at level 0.
+
+ghost use Rattle.std.specs.Prelude.{◌≡◌, ℕ, ◌+◌, ◌<◌, ◌≤◌, [], ◌∷◌, ◌++◌, length, OnOk, OnErr, IfOk, IfErr, ◌^◌, codes};
+ghost use Rattle.perm_tree.specs.Places.{ClassPlaced};
+ghost use Rattle.perm_parse.specs.Meaning.{nothing_yet};
+ghost use Rattle.perm_parse.specs.Reading.{Onward};
+ghost use Rattle.perm_parse.specs.ReadingMembers.{Gives, PushedClass, ReadsClass, ReadsClasses};
+ghost use Rattle.perm_parse.specs.Tokens.{IsOver, spelled};
+
+use crate::parser::Parser;
+use indexmap::IndexSet;
+use perm_tree::ast::ClassDecl;
+use perm_tree::errors::ParseError;
+use perm_tree::list::Name;
+use perm_tree::program::Program;
+use perm_tree::tokens::{Token, TokenKind};
+use std::alloc::Global;
+
+/// The program of no classes, whose only name is `this`.
+fn nothing_yet(alloc: Global) -> Result<Program, ParseError>
+    ensures ok { IfOk result (λ p. p ≡ nothing_yet) }
+    ensures err { IfErr result (λ e. e ≡ ParseError.NoMemory) }
+{
+    let this = b"this".to_vec(alloc).map_err(|_| ParseError::NoMemory)?;
+    let mut program = Program::new(alloc);
+    match program.push_name(Name::from_vec(this)) {
+        Ok(_) => Ok(program),
+        Err(_) => Err(ParseError::NoMemory),
+    }
+}
+
+/// The set of the only name `this`.
+fn this_alone<'a>(alloc: Global) -> Result<IndexSet<&'a [u8]>, ParseError>
+    ensures ok { IfOk result (λ s. spelled s.keys ≡ codes "this" ∷ []) }
+    ensures err { IfErr result (λ e. e ≡ ParseError.NoMemory) }
+{
+    let mut names: IndexSet<&'a [u8]> = IndexSet::new(alloc);
+    match names.insert(b"this") {
+        Ok(_) => Ok(names),
+        Err(_) => Err(ParseError::NoMemory),
+    }
+}
+
+/// Reads a program to its end, or up to the first token that is refused.
+pub fn read(alloc: Global, text: &[u8], tokens: &[Token]) -> Result<Program, ParseError>
+    requires few { length tokens.now < 2 ^ 32 }
+    requires over { IsOver text.now tokens.now }
+    ensures { Gives text.now tokens.now result }
+{
+    let mut parser = Parser {
+        text,
+        tokens,
+        at: 0,
+        program: nothing_yet(alloc)?,
+        names: this_alone(alloc)?,
+        alloc,
+    };
+    parser.classes()?;
+    Ok(parser.program)
+}
+
+impl<'a> Parser<'a> {
+    /// Adds a class.
+    fn add_class(&mut self, class: ClassDecl) -> Result<(), ParseError>
+        requires { ClassPlaced (length self.old.program.exprs) (length self.old.program.stmts) class }
+        ensures pushed { PushedClass class self.old self.new result }
+        ensures onward { Onward self.old self.new }
+    {
+        match self.program.push_class(class) {
+            Ok(_) => Ok(()),
+            Err(_) => Err(ParseError::NoMemory),
+        }
+    }
+
+    /// `class C { .. }`
+    fn class(&mut self) -> Result<(), ParseError>
+        requires { self.old.at < length self.old.tokens.now }
+        ensures reads { ReadsClass self.old self.new result }
+        ensures onward { Onward self.old self.new }
+        ensures ahead { OnOk result (self.old.at < self.new.at) }
+    {
+        let _word = self.expect(TokenKind::Class)?;
+        let token = self.expect(TokenKind::Name)?;
+        let name = self.ident(token)?;
+        let _opening = self.open(TokenKind::OpenBrace, 0)?;
+        let class = self.members(name)?;
+        self.add_class(class)
+    }
+
+    /// Classes, up to the end of the tokens
+    pub fn classes(&mut self) -> Result<(), ParseError>
+        ensures reads { ReadsClasses self.old self.new result }
+        ensures onward { Onward self.old self.new }
+    {
+        'classes: while self.at < self.tokens.len() {
+            self.class()?;
+        }
+        Ok(())
+    }
+}

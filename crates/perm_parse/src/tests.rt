@@ -1,0 +1,257 @@
+use crate::parse;
+use perm_lex::{MOST_BYTES, lex};
+use perm_tree::ast::Perm;
+use perm_tree::errors::ParseError;
+use perm_tree::print::print_program;
+use perm_tree::program::Program;
+use std::alloc::Global;
+use std::test::Fail;
+
+/// A program in its canonical text.
+const POINT: &[u8] = b"class Main {
+  long x;
+  long y;
+  long Run(immutable long[] input) writable {
+    isolated Main p = new Main();
+    p.x = 3;
+    p.y = 4;
+    long a = p.x;
+    long b = p.y;
+    print a + b;
+    return 0;
+  }
+}
+";
+
+/// How many tokens a text has, and whether they are a program.
+#[derive(Drop)]
+struct Parsed {
+    count: usize,
+    answer: Result<Program, ParseError>,
+}
+
+/// Lexes and parses a text of a test, which is short.
+fn parse_short(alloc: Global, text: &[u8]) -> Result<Parsed, Fail> {
+    let end = text.len().min(MOST_BYTES);
+    let tokens = lex(alloc, &text[..end])?;
+    Ok(Parsed {
+        count: tokens.len(),
+        answer: parse(alloc, &text[..end], tokens.as_slice()),
+    })
+}
+
+/// A program with these statements.
+fn in_method(alloc: Global, statements: &[u8]) -> Result<Vec<u8>, Fail> {
+    let mut text = b"class A { long m() writable { ".to_vec(alloc)?;
+    text.extend_from_slice(statements)?;
+    text.extend_from_slice(b" return 0; } }")?;
+    Ok(text)
+}
+
+#[test]
+fn a_program_is_read(rt: HostRuntime) -> Result<(), Fail> {
+    let program = parse_short(rt.alloc(), POINT)?.answer?;
+    let words: [&[u8]; 9] = [
+        b"this", b"Main", b"x", b"y", b"Run", b"input", b"p", b"a", b"b",
+    ];
+    assert_eq!(rt; program.names().len(), words.len());
+    for (name, word) in program.names().iter().zip(words) {
+        assert_eq!(rt; name.as_slice(), word);
+    }
+    assert_eq!(rt; program.classes().len(), 1);
+    assert_eq!(rt; program.stmts().len(), 6);
+    assert_eq!(rt; program.exprs().len(), 6);
+    assert_eq!(rt; program.mentions().len(), 2);
+    Ok(())
+}
+
+#[test]
+fn members_are_in_text_order(rt: HostRuntime) -> Result<(), Fail> {
+    let text =
+        b"class A { long a; bool f(long p, isolated A q) immutable { return p; } bool b; long g() isolated { return 0; } } class  B{}";
+    let program = parse_short(rt.alloc(), text)?.answer?;
+    assert_eq!(rt; program.classes().len(), 2);
+    let fields = program.classes()[0].fields.as_slice();
+    assert_eq!(rt; fields.len(), 2);
+    assert_eq!(rt; fields[0].name.name, 2);
+    assert_eq!(rt; fields[1].name.name, 6);
+    let methods = program.classes()[0].methods.as_slice();
+    assert_eq!(rt; methods.len(), 2);
+    assert_eq!(rt; methods[0].name.name, 3);
+    assert_eq!(rt; methods[0].params.as_slice().len(), 2);
+    assert!(rt; methods[0].receiver == Perm::Immutable);
+    assert_eq!(rt; methods[1].name.name, 7);
+    assert!(rt; methods[1].receiver == Perm::Isolated);
+    assert_eq!(rt; program.classes()[1].fields.as_slice().len(), 0);
+    Ok(())
+}
+
+#[test]
+fn each_form_is_accepted(rt: HostRuntime) -> Result<(), Fail> {
+    let forms: [(&[u8], usize); 25] = [
+        (b"", 0),
+        (b"long x;", 1),
+        (b"immutable long[] x;", 1),
+        (b"isolated A x = y;", 1),
+        (b"x = -1 * (2 - y) % 3;", 1),
+        (b"bool x = !true && 1 <= 2 || y != null;", 1),
+        (b"x = consume y;", 1),
+        (b"x = y.f;", 1),
+        (b"x = consume this.f;", 1),
+        (b"x = y[1 + 2];", 1),
+        (b"x = new A();", 1),
+        (b"x = new long[y];", 1),
+        (b"x = this.m(1, consume y);", 1),
+        (b"x = (consume y).m();", 1),
+        (b"x = recover { writable A z = new A(); give z; };", 2),
+        (b"y.f = 1;", 1),
+        (b"this.f = consume y;", 1),
+        (b"y[0] = -1;", 1),
+        (b"y.m();", 1),
+        (b"(consume y).m(x);", 1),
+        (b"print x / 2;", 1),
+        (b"if (x) { } print 1;", 2),
+        (b"if (x) { print 1; } else { print 2; }", 3),
+        (b"while (x < 3) { x = x + 1; }", 2),
+        (b"par { print 1; } { }", 2),
+    ];
+    for (statements, count) in forms {
+        let text = in_method(rt.alloc(), statements)?;
+        let program = parse_short(rt.alloc(), text.as_slice())?.answer?;
+        assert_eq!(rt; program.stmts().len(), count, "{statements:?}");
+    }
+    Ok(())
+}
+
+#[test]
+fn the_first_refused_token_is_told(rt: HostRuntime) -> Result<(), Fail> {
+    let texts: [(&[u8], u32); 9] = [
+        (b"class Main {", 3),
+        (b"x", 0),
+        (b"class", 1),
+        (b"class A { } }", 4),
+        (b"class A { long x }", 5),
+        (b"class A { A x; }", 3),
+        (b"class A { long m() { return 0; } }", 7),
+        (b"class A { long m(long a,) writable { return 0; } }", 9),
+        (b"class A { long m() writable { } }", 9),
+    ];
+    for (text, token) in texts {
+        let refused = parse_short(rt.alloc(), text)?.answer.err();
+        assert_eq!(rt; refused, Some(ParseError::Unexpected { token }), "{text:?}");
+    }
+    Ok(())
+}
+
+#[test]
+fn the_first_refused_token_of_a_statement_is_told(rt: HostRuntime) -> Result<(), Fail> {
+    let statements: [(&[u8], u32); 9] = [
+        (b"par { }", 12),
+        (b"else { }", 9),
+        (b"this = 1;", 10),
+        (b"x = y.f + 1;", 14),
+        (b"x = (consume y);", 15),
+        (b"x = recover { };", 13),
+        (b"print consume x;", 10),
+        (b"give x;", 9),
+        (b"return 0; long x;", 12),
+    ];
+    for (statement, token) in statements {
+        let text = in_method(rt.alloc(), statement)?;
+        let refused = parse_short(rt.alloc(), text.as_slice())?.answer.err();
+        assert_eq!(rt;
+            refused,
+            Some(ParseError::Unexpected { token }),
+            "{statement:?}"
+        );
+    }
+    Ok(())
+}
+
+#[test]
+fn the_level_past_the_deepest_is_told(rt: HostRuntime) -> Result<(), Fail> {
+    let start = b"class Main { long Run(immutable long[] input) writable { return ";
+    let cases: [(usize, &[u8], ParseError); 5] = [
+        (99, b"", ParseError::TooDeep { token: 113 }),
+        (99, b";", ParseError::TooDeep { token: 113 }),
+        (98, b"-", ParseError::TooDeep { token: 113 }),
+        (98, b"", ParseError::Unexpected { token: 113 }),
+        (98, b"{", ParseError::Unexpected { token: 113 }),
+    ];
+    for (count, end, error) in cases {
+        let mut text = start.to_vec(rt.alloc())?;
+        for _ in 0..count {
+            text.push(b'(')?;
+        }
+        text.extend_from_slice(end)?;
+        let refused = parse_short(rt.alloc(), text.as_slice())?.answer.err();
+        assert_eq!(rt; refused, Some(error), "{count} {end:?}");
+    }
+    Ok(())
+}
+
+#[test]
+fn any_tokens_have_an_answer(rt: HostRuntime) -> Result<(), Fail> {
+    let words: [&[u8]; 24] = [
+        b"x ",
+        b"x ",
+        b"= ",
+        b"= ",
+        b"; ",
+        b"; ",
+        b"( ",
+        b") ",
+        b"{ ",
+        b"} ",
+        b"1 ",
+        b"+ ",
+        b"- ",
+        b"this ",
+        b". ",
+        b"long ",
+        b"if ( x ) { } ",
+        b"else ",
+        b"par ",
+        b"consume ",
+        b"print ",
+        b"x = recover { give x ; } ; ",
+        b"[ ",
+        b"] ",
+    ];
+    let mut state = 1u32;
+    for _ in 0..400 {
+        let mut statements = Vec::new(rt.alloc());
+        for _ in 0..12 {
+            state = state.wrapping_mul(1_664_525).wrapping_add(1_013_904_223);
+            statements.extend_from_slice(words[(state >> 24) as usize % words.len()])?;
+        }
+        let text = in_method(rt.alloc(), statements.as_slice())?;
+        let parsed = parse_short(rt.alloc(), text.as_slice())?;
+        let count = parsed.count;
+        match parsed.answer.err() {
+            None => {}
+            Some(ParseError::Unexpected { token }) => assert!(rt; token as usize <= count),
+            Some(ParseError::TooDeep { token }) => assert!(rt; (token as usize) < count),
+            Some(ParseError::NoMemory) => assert!(rt; false),
+        }
+    }
+    Ok(())
+}
+
+#[test]
+fn a_program_is_written_in_its_canonical_text(rt: HostRuntime) -> Result<(), Fail> {
+    let cases: [(&[u8], &[u8]); 3] = [
+        (POINT, POINT),
+        (b"class  A{}", b"class A {\n}\n"),
+        (
+            b"class A{long F(long n)readable{return((1-(2-n))*(3*4))-(-n);}long g;}",
+            b"class A {\n  long F(long n) readable {\n    return (1 - (2 - n)) * (3 * 4) - -n;\n  }\n  long g;\n}\n",
+        ),
+    ];
+    for (text, canonical) in cases {
+        let program = parse_short(rt.alloc(), text)?.answer?;
+        let written = print_program(rt.alloc(), &program)?;
+        assert_eq!(rt; written.as_slice(), canonical);
+    }
+    Ok(())
+}

@@ -1,0 +1,30 @@
+-- What follows for an expression from the values of its operands.
+use Rattle.std.proofs.Common.{◌≡◌, ℕ, true, false, Some, None, Option, Bool, ◌∙◌, ap}
+use Rattle.perm_tree.specs.declared.ast.BinaryOp.{BinaryOp}
+use Rattle.perm_meaning.specs.Expressions.{left_then_right, then_binary, unless_decided}
+use Rattle.perm_meaning.specs.Values.{Eval, Gives, Traps, Mistyped}
+use Rattle.perm_meaning.specs.Words.{words}
+use Rattle.perm_step.specs.declared.eval.Value.{Value}
+use Rattle.perm_step.specs.Evaluation.{as_eval, IsAnswer}
+
+-- the value of what an expression gives
+pub exact : (e : Eval ℕ) (v : Value) → as_eval v ≡ e → IsAnswer e v
+exact (Gives w) v same = same
+exact (Traps k) v same = same
+exact Mistyped v same = tt
+
+-- the right operand is mistyped: the left one decides, or the whole is mistyped
+without_right : (d : Option Bool) (a : ℕ) (right : Eval ℕ) (v : Value) → as_eval v ≡ unless_decided words d (Gives a) right → IsAnswer (unless_decided words d (Gives a) Mistyped) v
+without_right None a right v same = tt
+without_right (Some true) a right v same = same
+without_right (Some false) a right v same = tt
+
+pub both : (op : BinaryOp) (e f : Eval ℕ) (left right v : Value) → IsAnswer e left → IsAnswer f right → as_eval v ≡ left_then_right words op (as_eval left) (as_eval right) → IsAnswer (left_then_right words op e f) v
+both op Mistyped f left right v l r same = tt
+both op (Traps k) f left right v l r same = exact (Traps k) v (same ∙ ap (λ x. left_then_right words op x (as_eval right)) l)
+both op (Gives a) Mistyped left right v l r same =
+    without_right (words.decided op a) a (then_binary words op a (as_eval right)) v (same ∙ ap (λ x. left_then_right words op x (as_eval right)) l)
+both op (Gives a) (Gives b) left right v l r same =
+    exact (left_then_right words op (Gives a) (Gives b)) v (same ∙ ap (λ x. left_then_right words op x (as_eval right)) l ∙ ap (left_then_right words op (Gives a)) r)
+both op (Gives a) (Traps k) left right v l r same =
+    exact (left_then_right words op (Gives a) (Traps k)) v (same ∙ ap (λ x. left_then_right words op x (as_eval right)) l ∙ ap (left_then_right words op (Gives a)) r)

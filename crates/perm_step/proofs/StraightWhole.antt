@@ -1,0 +1,120 @@
+-- A straight unit from its parts, and its parts from the whole.
+use Rattle.std.proofs.Common.{◌≡◌, ◌∙◌, ◌<◌, ◌≤◌, Bool, true, false, ◌&&◌, List, [], ◌∷◌, Result, Ok, Err, IfOk, ap, arith, get_or, length, refl, subst, sym}
+use Rattle.std.specs.Prelude.{slice_get}
+use Rattle.perm_tree.specs.declared.ast.ClassDecl.{ClassDecl}
+use Rattle.perm_tree.specs.declared.ast.FieldDecl.{FieldDecl}
+use Rattle.perm_tree.specs.declared.ast.Method.{Method}
+use Rattle.perm_tree.specs.declared.unit.MethodTable.{MethodTable}
+use Rattle.perm_tree.specs.declared.unit.VarInfo.{VarInfo}
+use Rattle.perm_tree.specs.Code.{Return}
+use Rattle.perm_tree.specs.CodeOf.{argument, block_code, routine, setting}
+use Rattle.perm_tree.specs.Lookup.{is_class_word}
+use Rattle.perm_tree.specs.Names.{is_good_run}
+use Rattle.perm_tree.specs.Places.{IsPlaced, Listing, MethodPlaced}
+use Rattle.perm_tree.specs.Spelling.{is_word, main_word, run_word}
+use Rattle.perm_tree.specs.UnitTables.{Tables}
+use Rattle.perm_step.specs.Deciding.{IsWhether}
+use Rattle.perm_step.specs.Straight.{AllLong, AllStraight, IsStraight, IsStraightCode, Other}
+use Rattle.perm_step.proofs.Deciding.{whether-as}
+
+-- a list of one element
+pub single : {X : Type 0} (xs : List X) (x : X) → 1 ≤ length xs → length xs < 2 → x ≡ get_or xs 0 x → xs ≡ x ∷ []
+single [] x least below is = absurd (omega (arith, least))
+single (y ∷ []) x least below is = ap (λ z. z ∷ []) (sym is)
+single (y ∷ z ∷ ys) x least below is = absurd (omega (arith, below))
+
+both-true : (a b : Bool) → (a && b) ≡ true → (a ≡ true) × (b ≡ true)
+both-true true b e = (refl, e)
+both-true false b e = absurd (let no : ⊥ = cc e in no)
+
+-- the one method of the one class is placed
+pub one-placed : (p : Listing) (class : ClassDecl) (run : Method) → IsPlaced p → p.classes ≡ class ∷ [] → class.methods ≡ run ∷ [] → MethodPlaced (length p.exprs) (length p.stmts) run
+one-placed p class run placed one_class one_method =
+    placed.bodies 0 class (ap (λ (l : List ClassDecl). slice_get l 0) one_class) 0 run (ap (λ (l : List Method). slice_get l 0) one_method)
+
+module _ (u : Tables) (class : ClassDecl) (run : Method) (table : MethodTable) (one_class : u.program.classes ≡ class ∷ []) (one_method : class.methods ≡ run ∷ []) (one_table : u.tables ≡ table ∷ []) where
+  -- the code of a straight unit is that of its one method
+  code-straight : IsStraight u → IsStraightCode (length class.fields) (length table.vars) (Other ∷ Other ∷ []) (routine u table run).code
+  code-straight s =
+      let classes : s.class ∷ [] ≡ class ∷ [] = sym s.one_class ∙ one_class in
+      let same_class : s.class ≡ class = cc classes in
+      let methods : s.run ∷ [] ≡ run ∷ [] = sym s.one_method ∙ ap (λ (d : ClassDecl). d.methods) same_class ∙ one_method in
+      let same_run : s.run ≡ run = cc methods in
+      let tables : s.table ∷ [] ≡ table ∷ [] = sym s.one_table ∙ one_table in
+      let same_table : s.table ≡ table = cc tables in
+      subst
+      (λ (d : ClassDecl). IsStraightCode (length d.fields) (length table.vars) (Other ∷ Other ∷ []) (routine u table run).code)
+      same_class
+      (subst
+      (λ (t : MethodTable). IsStraightCode (length s.class.fields) (length t.vars) (Other ∷ Other ∷ []) (routine u t run).code)
+      same_table
+      (subst (λ (m : Method). IsStraightCode (length s.class.fields) (length s.table.vars) (Other ∷ Other ∷ []) (routine u s.table m).code) same_run s.code))
+
+  -- where all else is as it should be, the code decides
+  code-decides : {E : Type 0} (r : Result Bool E)
+      → is_class_word u.program main_word class ≡ true
+      → is_word u.program.names run_word run.name.name ≡ true
+      → is_good_run run ≡ true
+      → AllLong class.fields
+      → AllStraight u.program.stmts
+      → table.class ≡ 0
+      → table.«method» ≡ 0
+      → (length class.fields ≤ 256) × (length table.vars ≤ 256) × (length run.body.stmts ≤ 1048576)
+      → IfOk r (λ b. IsWhether b (IsStraightCode (length class.fields) (length table.vars) (Other ∷ Other ∷ []) (routine u table run).code))
+      → IfOk r (λ b. IsWhether b (IsStraight u))
+  code-decides (Err e) is_main is_run signature numbers statements of_main of_run small told = tt
+  code-decides (Ok b) is_main is_run signature numbers statements of_main of_run small told =
+      whether-as
+      b
+      (λ code. record {
+        class = class;
+        run = run;
+        table = table;
+        one_class = one_class;
+        is_main = is_main;
+        numbers = numbers;
+        one_method = one_method;
+        is_run = is_run;
+        signature = signature;
+        one_table = one_table;
+        of_main = of_main;
+        of_run = of_run;
+        statements = statements;
+        code = code;
+        few_fields = small.0;
+        few_variables = small.1;
+        few_statements = small.2;
+      })
+      code-straight
+      told
+
+-- the same with what the function reads
+pub whole-decides : {E : Type 0} (u : Tables) (p : Listing) (class : ClassDecl) (run : Method) (table : MethodTable) (fields : List FieldDecl) (vars : List VarInfo) (r : Result Bool E)
+    → p ≡ u.program
+    → p.classes ≡ class ∷ []
+    → class.methods ≡ run ∷ []
+    → u.tables ≡ table ∷ []
+    → fields ≡ class.fields
+    → vars ≡ table.vars
+    → (is_class_word p main_word class && (is_word p.names run_word run.name.name && is_good_run run)) ≡ true
+    → AllLong fields
+    → AllStraight p.stmts
+    → table.class ≡ 0
+    → table.«method» ≡ 0
+    → (length class.fields ≤ 256) × (length table.vars ≤ 256) × (length run.body.stmts ≤ 1048576)
+    → IfOk r (λ b. IsWhether b (IsStraightCode (length fields) (length vars) (Other ∷ Other ∷ []) (block_code (setting u vars) run.body.stmts (Return run.span (argument (setting u vars) run.back)))))
+    → IfOk r (λ b. IsWhether b (IsStraight u))
+whole-decides u p class run table fields vars r same one_class one_method one_table of_class of_table named numbers statements of_main of_run small told =
+    let names = subst (λ (q : Listing). (is_class_word q main_word class && (is_word q.names run_word run.name.name && is_good_run run)) ≡ true) same named in
+    let first = both-true (is_class_word u.program main_word class) (is_word u.program.names run_word run.name.name && is_good_run run) names in
+    let second = both-true (is_word u.program.names run_word run.name.name) (is_good_run run) first.1 in
+    let with_fields = subst
+    (λ (fs : List FieldDecl). IfOk r (λ b. IsWhether b (IsStraightCode (length fs) (length vars) (Other ∷ Other ∷ []) (block_code (setting u vars) run.body.stmts (Return run.span (argument (setting u vars) run.back))))))
+    of_class
+    told in
+    let with_vars = subst
+    (λ (vs : List VarInfo). IfOk r (λ b. IsWhether b (IsStraightCode (length class.fields) (length vs) (Other ∷ Other ∷ []) (block_code (setting u vs) run.body.stmts (Return run.span (argument (setting u vs) run.back))))))
+    of_table
+    with_fields in
+    code-decides u class run table (subst (λ (q : Listing). q.classes ≡ class ∷ []) same one_class) one_method one_table r first.0 second.0 second.1
+    (subst (λ (l : List FieldDecl). AllLong l) of_class numbers) (subst (λ (q : Listing). AllStraight q.stmts) same statements) of_main of_run small with_vars

@@ -1,0 +1,5 @@
+pub mod FirstFindings
+pub mod FirstPlaces
+pub mod Maps
+pub mod Renaming
+pub mod Walking

@@ -1,0 +1,5 @@
+pub mod Answers
+pub mod Findings
+pub mod Numbers
+pub mod Runs
+pub mod Walks

@@ -1,0 +1,7 @@
+use Rattle.std.proofs.Common.{rules}
+use Rattle.perm_tree.specs.Printing.{onto}
+use Rattle.perm_tree.proofs.print.stack.push.Goals as goal
+
+pub returns : goal.returns
+unfolding onto
+returns c = search rules

@@ -1,0 +1,11 @@
+use Rattle.std.proofs.Common.{rules}
+use Rattle.std.proofs.lemmas.Iterator.Adapters.{items_from_extend, YieldsList-from_rev_slice}
+use Rattle.std.proofs.lemmas.Iterator.Consumers.{YieldsList-from_copied}
+use Rattle.perm_tree.specs.Printing.{onto}
+use Rattle.perm_tree.proofs.print.stack.push_all.Goals as goal
+
+pub returns : goal.returns
+unfolding onto
+returns c =
+    let h = items_from_extend c.extend.result c.extend.ensures.ran (YieldsList-from_copied (YieldsList-from_rev_slice c.args.parts.now (cc))) in
+    search rules

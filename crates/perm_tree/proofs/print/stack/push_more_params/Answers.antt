@@ -1,0 +1,16 @@
+use Rattle.std.proofs.Common.{rules, ◌≡◌, [], ◌∷◌, ◌++◌, length}
+use Rattle.perm_tree.specs.declared.print.part.Part.TheVariants.{Word as Fixed, Declared}
+use Rattle.perm_tree.specs.declared.print.part.Word.TheVariants as fixed
+use Rattle.perm_tree.specs.Printing.{more_params_tasks}
+use Rattle.perm_tree.proofs.PrintStacks.{before_last, none_left}
+use Rattle.perm_tree.proofs.print.stack.push_more_params.Goals as goal
+
+pub loop-last-preserved : goal.loop-last-preserved
+loop-last-preserved c =
+    let split : c.loop-last.left.now ≡ c.in-Some.before.now ++ c.in-Some.last.now ∷ [] = search rules in
+    before_last (λ d. Fixed fixed.Comma ∷ Declared d.ty d.name ∷ []) c.loop-last.stack.items c.push_all.new.stack.items c.args.stack.now.items (more_params_tasks c.args.params.now) c.loop-last.left.now c.in-Some.before.now c.in-Some.last.now split c.in_ok-push_all.ensures c.loop-last.invariant
+
+pub returns : goal.returns
+returns c =
+    let none : length c.loop-last.left.now ≡ 0 = search rules in
+    none_left (λ d. Fixed fixed.Comma ∷ Declared d.ty d.name ∷ []) c.loop-last.stack.items c.args.stack.now.items (more_params_tasks c.args.params.now) c.loop-last.left.now none c.loop-last.invariant

@@ -1,0 +1,9 @@
+use Rattle.std.proofs.Common.{◌≡◌, length}
+use Rattle.perm_tree.specs.Printing.{onto, more_params_tasks}
+use Rattle.perm_tree.proofs.print.stack.push_more_params.Given as goal
+
+abbrev pub invariant-loop-last : goal.invariant-loop-last
+invariant-loop-last l = onto l.stack.items (more_params_tasks l.left) ≡ onto l.initial.stack.items (more_params_tasks l.initial.left)
+
+abbrev pub decreases-loop-last : goal.decreases-loop-last
+decreases-loop-last l = length l.left
