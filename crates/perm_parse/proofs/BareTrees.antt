@@ -1,22 +1,17 @@
 -- A program's tree without its redundant parentheses is a tree, means the same, is as shallow, and has no other tokens but parentheses.
-use Rattle.std.proofs.Common.{◌≡◌, ◌≢◌, ℕ, ◌+◌, ◌≤◌, List, [], ◌∷◌, ◌++◌, Bool as Boolean, true, false, ltb, leb, refl, sym, ◌∙◌, ap, arith}
-use Rattle.std.specs.Prelude.{slice_range}
+use Rattle.std.proofs.Common.{◌≡◌, ℕ, ◌+◌, ◌≤◌, List, [], ◌∷◌, refl, arith}
 use Rattle.perm_tree.specs.Places.{Listing}
 use Rattle.perm_tree.specs.declared.ast.FieldDecl.{FieldDecl}
 use Rattle.perm_tree.specs.declared.ast.Method.{Method}
 use Rattle.perm_tree.specs.declared.tokens.Token.{Token}
-use Rattle.perm_tree.specs.declared.tokens.TokenKind.TheVariants as kind
-use Rattle.perm_lex.specs.Tokens.{IsToken, largest}
 use Rattle.perm_parse.specs.Grammar.{ExprTree, ArgTree, ArgList, Args, CallTree, RhsTree, BlockTree, StmtTree, Stmts, MemberTree, Members, Classes}
-use Rattle.perm_parse.specs.Grammar.{TypeTree, type_text, RecvTree, recv_text, TargetTree, target_text, ParamList, param_list_text, Params, params_text}
-use Rattle.perm_parse.specs.Grammar.{expr_text, arg_text, arg_list_text, args_text, call_text, rhs_text, block_text, stmt_text, stmts_text, member_text, members_text, program_text}
-use Rattle.perm_parse.specs.Grammar.{IsExpr, IsArg, IsArgList, AreArgs, IsCall, IsRhs, IsBlock, IsStmt, AreStmts, IsMember, AreMembers, IsProgram, looseness, level}
+use Rattle.perm_parse.specs.Grammar.{TypeTree, RecvTree, TargetTree, ParamList, Params}
+use Rattle.perm_parse.specs.Grammar.{IsExpr, IsArg, IsArgList, AreArgs, IsCall, IsRhs, IsBlock, IsStmt, AreStmts, IsMember, AreMembers, IsProgram}
 use Rattle.perm_parse.specs.Levels.{type_levels, recv_levels, target_levels, param_list_levels, params_levels}
 use Rattle.perm_parse.specs.Levels.{expr_levels, arg_levels, arg_list_levels, args_levels, call_levels, rhs_levels, block_levels, stmt_levels, stmts_levels, member_levels, members_levels, program_levels}
-use Rattle.perm_parse.specs.Meaning.{ident, var, target_of, expr_of, arg_of, arg_list_of, args_of, call_of, rhs_of, block_of, stmt_of, stmts_of, method_of, member_of, members_of, classes_of, meaning, head_last}
+use Rattle.perm_parse.specs.Meaning.{ident, var, target_of, expr_of, arg_of, arg_list_of, args_of, call_of, rhs_of, block_of, stmt_of, stmts_of, method_of, member_of, members_of, classes_of, head_last}
 use Rattle.perm_parse.specs.Parses.{Shallow}
-use Rattle.perm_parse.proofs.Completion.{some_token}
-use Rattle.perm_parse.proofs.CanonicalTrees.{bare, bare-is, bare-of, bare-low, enclosed}
+use Rattle.perm_parse.proofs.CanonicalTrees.{bare, bare-is, bare-of, bare-low}
 
 abbrev pub bare_arg : ArgTree → ArgTree
 bare_arg (ArgTree.plain e) = ArgTree.plain (bare e)
@@ -308,7 +303,7 @@ member-low : (x : MemberTree) (rest others : List ℕ) → IsMember x → Lows r
 member-low (MemberTree.field_member ty name end) rest others is more = type-low 1 ty (1 ∷ 1 ∷ rest) (1 ∷ 1 ∷ others) (one (one more))
 member-low (MemberTree.method ty name opening list closing p perm start b word a end finish) rest others is more =
     type-low 1 ty _ _ (one (one (params-low 2 list _ _ (one (one (one
-    (stmts-low 2 b _ _ is.7 (omega arith) (one (arg-low 2 a (2 ∷ 1 ∷ rest) (2 ∷ 1 ∷ others) is.9 (omega arith) (one (one more))))))))))) 
+    (stmts-low 2 b _ _ is.7 (omega arith) (one (arg-low 2 a (2 ∷ 1 ∷ rest) (2 ∷ 1 ∷ others) is.9 (omega arith) (one (one more)))))))))))
 
 members-low : (list : Members) (rest others : List ℕ) → AreMembers list → Lows rest others → Lows (members_levels list rest) (members_levels (bare_members list) others)
 members-low Members.no_members rest others is more = more

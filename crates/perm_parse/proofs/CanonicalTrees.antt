@@ -1,16 +1,14 @@
 -- The canonical tree: parentheses just where an operand binds too loosely. It has the meaning of the tree that it is made of.
-use Rattle.std.proofs.Common.{◌≡◌, ℕ, ◌+◌, ◌<◌, ◌≤◌, max, List, [], ◌∷◌, Bool as Boolean, true, false, ltb, leb, refl, sym, ◌∙◌, ap, arith, ◌⊎◌, inl, inr}
+use Rattle.std.proofs.Common.{◌≡◌, ℕ, ◌+◌, ◌<◌, ◌≤◌, max, List, ◌∷◌, Bool as Boolean, true, false, ltb, leb, refl, ◌∙◌, ap, arith, ◌⊎◌, inl, inr}
 use Rattle.std.proofs.lemmas.Bool.{leb-true, leb-false, ltb-true, ltb-false}
 use Rattle.perm_tree.specs.Places.{Listing}
-use Rattle.perm_tree.specs.declared.ast.BinaryOp.{BinaryOp}
 use Rattle.perm_tree.specs.declared.ast.Expr.TheVariants as node
-use Rattle.perm_tree.specs.declared.tokens.Token.{Token}
 use Rattle.perm_tree.specs.declared.tokens.TokenKind.TheVariants as kind
-use Rattle.perm_parse.specs.Grammar.{TypeTree, ExprTree, ArgTree, ArgList, Args, RecvTree, CallTree, TargetTree, RhsTree, BlockTree, StmtTree, Stmts, ParamList, Params, MemberTree, Members, Classes}
-use Rattle.perm_parse.specs.Grammar.{IsExpr, IsArg, IsArgList, AreArgs, IsCall, IsRhs, IsBlock, IsStmt, AreStmts, IsMember, AreMembers, IsProgram, looseness, level}
+use Rattle.perm_parse.specs.Grammar.{ExprTree}
+use Rattle.perm_parse.specs.Grammar.{IsExpr, looseness, level}
 use Rattle.perm_parse.specs.Levels.{expr_levels}
 use Rattle.perm_parse.specs.Parses.{Shallow}
-use Rattle.perm_parse.specs.Meaning.{push_expr, expr_of, arg_of, arg_list_of, args_of, call_of, rhs_of, block_of, stmt_of, stmts_of, member_of, members_of, classes_of, meaning}
+use Rattle.perm_parse.specs.Meaning.{push_expr, expr_of}
 use Rattle.perm_parse.proofs.Completion.{some_token}
 use Rattle.perm_parse.proofs.ReadExpressions.{level-positive}
 
@@ -69,10 +67,13 @@ bare-is (ExprTree.null_word t) h = h
 bare-is (ExprTree.variable t) h = h
 bare-is (ExprTree.parens opening e closing) h = bare-is e h.1
 bare-is (ExprTree.unary o t e) h = (h.0, enclosed-is (ltb 0 (looseness (bare e))) (bare e) (bare-is e h.1), (let k = left-tight 0 (bare e) in omega arith))
-bare-is (ExprTree.binary o a t b) h =
-    (enclosed-is (ltb (level o) (looseness (bare a))) (bare a) (bare-is a h.0), h.1,
-    enclosed-is (leb (level o) (looseness (bare b))) (bare b) (bare-is b h.2),
-    left-tight (level o) (bare a), right-tight (level o) (bare b) (level-positive o))
+bare-is (ExprTree.binary o a t b) h = (
+  enclosed-is (ltb (level o) (looseness (bare a))) (bare a) (bare-is a h.0),
+  h.1,
+  enclosed-is (leb (level o) (looseness (bare b))) (bare b) (bare-is b h.2),
+  left-tight (level o) (bare a),
+  right-tight (level o) (bare b) (level-positive o),
+)
 
 pub bare-of : (text : List ℕ) (e : ExprTree) (s : Listing) → expr_of text (bare e) s ≡ expr_of text e s
 bare-of text (ExprTree.number t) s = refl

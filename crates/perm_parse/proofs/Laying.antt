@@ -1,5 +1,5 @@
 -- Pieces that write tokens: they are pieces of a text, and the tokens that the text has are alike.
-use Rattle.std.proofs.Common.{◌≡◌, ◌≢◌, ℕ, zero, suc, ◌+◌, ◌-◌, ◌<◌, ◌≤◌, ◌^◌, ◌⊎◌, inl, inr, Bool as Boolean, true, false, ◌&&◌, ◌||◌, eqb, leb, List, [], ◌∷◌, ◌++◌, length, take, drop, pos, Some, unwrap_or, refl, sym, ◌∙◌, ap, subst, arith, append_assoc, append-nil}
+use Rattle.std.proofs.Common.{◌≡◌, ◌≢◌, ℕ, zero, suc, ◌+◌, ◌-◌, ◌<◌, ◌≤◌, ◌⊎◌, inl, inr, Bool as Boolean, true, false, ◌||◌, eqb, leb, List, [], ◌∷◌, ◌++◌, length, take, pos, Some, refl, sym, ◌∙◌, ap, subst, arith, append_assoc, append-nil}
 use Rattle.std.specs.Prelude.{slice_range, slice_index}
 use Rattle.std.specs.Char.{is_ascii_digit}
 use Rattle.std.specs.List.{list_all}
@@ -11,21 +11,19 @@ use Rattle.std.proofs.Math.Seq.{drop-append_seam, take-append_seam}
 use Rattle.std.proofs.lemmas.Fmt.{decimal_is_IsNumeral}
 use Rattle.std.proofs.lemmas.List.{length-append}
 use Rattle.std.proofs.lemmas.Bool.{both_ways, false≢true, ne_eqb, and_parts, and_from, le-leb}
-use Rattle.perm_tree.specs.declared.ast.Perm.{Perm}
-use Rattle.perm_tree.specs.declared.ast.Perm.TheVariants.{Isolated, Immutable, Readable, Writable}
 use Rattle.perm_tree.specs.declared.tokens.Token.{Token}
 use Rattle.perm_tree.specs.declared.tokens.TokenKind.{TokenKind}
 use Rattle.perm_tree.specs.declared.tokens.TokenKind.TheVariants as kinds
 use Rattle.perm_lex.specs.Tokens.{spelling, is_letter, is_word_byte, IsWord, IsToken, value_of, largest}
-use Rattle.perm_lex.specs.Lexes.{Piece, piece_text, pieces_text, is_blank, IsPiece, ArePieces, tokens_from}
+use Rattle.perm_lex.specs.Lexes.{Piece, pieces_text, ArePieces, tokens_from}
 use Rattle.perm_lex.specs.Lexes.Piece.{blank, line_comment, block_comment, token}
 use Rattle.perm_lex.proofs.Runs.{Stops}
 use Rattle.perm_lex.proofs.Spellings.{IsKeyword, IsSign, spelled}
 use Rattle.perm_lex.proofs.Writing as writing
 use Rattle.perm_lex.proofs.Writing.{goes_on, keyword_piece, number_piece, sign_piece}
-use Rattle.perm_parse.specs.Grammar.{Is, IsVar, perm_word}
-use Rattle.perm_parse.proofs.BareTokens.{IsWritten, AreWritten}
-use Rattle.perm_parse.proofs.Renewing.{Alike, AllAlike}
+use Rattle.perm_parse.specs.Grammar.{Is, IsVar}
+use Rattle.perm_parse.proofs.BareTokens.{AreWritten}
+use Rattle.perm_parse.proofs.Renewing.{AllAlike}
 use Rattle.perm_parse.proofs.CanonicalPieces.{spelled_as, mark, space, line, name_bytes, name_piece, var_piece_as, var_piece, indent_pieces}
 
 -- ---- what pieces write
@@ -59,10 +57,11 @@ write-alike text whole front (line_comment inside ∷ ps) us e h = absurd h
 write-alike text whole front (block_comment inside ∷ ps) us e h = absurd h
 write-alike text whole front (token k bytes ∷ ps) [] e h = absurd h
 write-alike text whole front (token k bytes ∷ ps) (u ∷ us) e h =
-    let here : slice_range whole (length front) (length front + length bytes) ≡ bytes = ap (λ w. slice_range w (length front) (length front + length bytes)) e ∙ slice-middle front bytes (pieces_text ps) in
-    (record { kind = h.0.kind; name = λ n. h.0.name (sym h.0.kind ∙ n) ∙ sym here; number = λ n. h.0.number (sym h.0.kind ∙ n) },
-    subst (λ n. AllAlike text whole us (tokens_from n ps)) (length-append front bytes)
-    (write-alike text whole (front ++ bytes) ps us (e ∙ sym (append_assoc front bytes (pieces_text ps))) h.1))
+    let here : slice_range whole (length front) (length front + length bytes) ≡ bytes = ap (λ w. slice_range w (length front) (length front + length bytes)) e ∙ slice-middle front bytes (pieces_text ps) in (
+      record { kind = h.0.kind; name = λ n. h.0.name (sym h.0.kind ∙ n) ∙ sym here; number = λ n. h.0.number (sym h.0.kind ∙ n) },
+      subst (λ n. AllAlike text whole us (tokens_from n ps)) (length-append front bytes)
+          (write-alike text whole (front ++ bytes) ps us (e ∙ sym (append_assoc front bytes (pieces_text ps))) h.1),
+    )
 
 -- ---- which bytes begin and end a token
 
@@ -189,9 +188,10 @@ number_laid {text} {u} {us} {ps} is stops more = record {
   lays = λ w.
       let r = more.lays w.1 in
       let small = w.0.number is in
-      let d = decimal-is u.value small in
-      ((record { kind = is; name = λ e. absurd (cc); number = λ e. sym d.value }, r.0),
-      (number_piece (decimal u.value) (pieces_text ps ++ []) d.token (subst (λ n. n ≤ largest) (sym d.value) small) (behind-all is_ascii_digit (pieces_text ps) (digits-stop (pieces_text ps) stops)), r.1));
+      let d = decimal-is u.value small in (
+        (record { kind = is; name = λ e. absurd (cc); number = λ e. sym d.value }, r.0),
+        (number_piece (decimal u.value) (pieces_text ps ++ []) d.token (subst (λ n. n ≤ largest) (sym d.value) small) (behind-all is_ascii_digit (pieces_text ps) (digits-stop (pieces_text ps) stops)), r.1),
+      );
 }
 
 -- ---- what begins with a word goes on with no sign

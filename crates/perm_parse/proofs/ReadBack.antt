@@ -1,12 +1,12 @@
 -- What is written of a program's canonical tree is read back as the program, but for its spans.
-use Rattle.std.proofs.Common.{◌≡◌, ℕ, ◌+◌, ◌≤◌, List, [], ◌∷◌, ◌++◌, length, refl, sym, ◌∙◌, ap, subst, append_assoc, append-nil}
+use Rattle.std.proofs.Common.{◌≡◌, ℕ, ◌+◌, List, [], ◌∷◌, ◌++◌, length, refl, sym, ◌∙◌, ap, subst, append_assoc, append-nil}
 use Rattle.std.proofs.lemmas.List.{length-append}
 use Rattle.std.specs.Prelude.{slice_range}
 use Rattle.perm_tree.specs.Places.{Listing}
 use Rattle.perm_tree.specs.declared.tokens.Token.{Token}
 use Rattle.perm_tree.specs.declared.tokens.TokenKind.{TokenKind}
 use Rattle.perm_tree.specs.declared.tokens.TokenKind.TheVariants as kinds
-use Rattle.perm_lex.specs.Tokens.{IsToken, value_of, largest}
+use Rattle.perm_lex.specs.Tokens.{IsToken}
 use Rattle.perm_lex.specs.Lexes.{Piece, piece_text, pieces_text, ArePieces, tokens_from, Lexes}
 use Rattle.perm_lex.specs.Lexes.Piece.{blank, line_comment, block_comment, token}
 use Rattle.perm_parse.specs.Grammar.{Classes, program_text}
@@ -14,10 +14,10 @@ use Rattle.perm_parse.specs.Meaning.{nothing_yet}
 use Rattle.perm_parse.specs.Parses.{Parses}
 use Rattle.perm_parse.specs.ReadsBack.{ReadsBack}
 use Rattle.perm_parse.proofs.BareTrees.{bare_classes, bare_classes-is, bare_classes-of, bare_classes-low}
-use Rattle.perm_parse.proofs.BareTokens.{IsWritten, AreWritten, bare_classes-written}
-use Rattle.perm_parse.proofs.RenewingPrograms.{ParsesAlike, renew_program}
+use Rattle.perm_parse.proofs.BareTokens.{AreWritten, bare_classes-written}
+use Rattle.perm_parse.proofs.RenewingPrograms.{renew_program}
 use Rattle.perm_parse.proofs.CanonicalPieces.{program_pieces}
-use Rattle.perm_parse.proofs.Laying.{Lays, WriteAll, write-alike, slice-middle}
+use Rattle.perm_parse.proofs.Laying.{write-alike, slice-middle}
 use Rattle.perm_parse.proofs.LayingTrees.{program_laid}
 
 -- ---- the tokens of a text are written in it
@@ -36,10 +36,11 @@ tokens-written text front (block_comment inside ∷ ps) e h =
     subst (λ n. AreWritten text (tokens_from n ps)) (length-append front bytes)
     (tokens-written text (front ++ bytes) ps (e ∙ sym (append_assoc front bytes (pieces_text ps))) h.1)
 tokens-written text front (token k bytes ∷ ps) e h =
-    let here : slice_range text (length front) (length front + length bytes) ≡ bytes = ap (λ w. slice_range w (length front) (length front + length bytes)) e ∙ slice-middle front bytes (pieces_text ps) in
-    (record { name = λ n. subst (λ w. IsToken kinds.Name w) (sym here) (subst (λ (j : TokenKind). IsToken j bytes) n h.0.0); number = λ n. h.0.4 },
-    subst (λ n. AreWritten text (tokens_from n ps)) (length-append front bytes)
-    (tokens-written text (front ++ bytes) ps (e ∙ sym (append_assoc front bytes (pieces_text ps))) h.1))
+    let here : slice_range text (length front) (length front + length bytes) ≡ bytes = ap (λ w. slice_range w (length front) (length front + length bytes)) e ∙ slice-middle front bytes (pieces_text ps) in (
+      record { name = λ n. subst (λ w. IsToken kinds.Name w) (sym here) (subst (λ (j : TokenKind). IsToken j bytes) n h.0.0); number = λ n. h.0.4 },
+      subst (λ n. AreWritten text (tokens_from n ps)) (length-append front bytes)
+          (tokens-written text (front ++ bytes) ps (e ∙ sym (append_assoc front bytes (pieces_text ps))) h.1),
+    )
 
 pub lexes-written : (text : List ℕ) (tokens : List Token) → Lexes text tokens → AreWritten text tokens
 lexes-written text tokens (ps, b, e) = subst (AreWritten text) (sym e) (tokens-written text [] ps (b.whole ∙ append-nil (pieces_text ps)) b.each)

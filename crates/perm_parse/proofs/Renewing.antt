@@ -1,23 +1,21 @@
 -- Other tokens with the same kinds, names and numbers, over another text, are those of a tree that means the same but for its spans: types and expressions.
-use Rattle.std.proofs.Common.{◌≡◌, ℕ, ◌+◌, ◌<◌, ◌≤◌, ◌⊎◌, inl, inr, List, [], ◌∷◌, ◌++◌, length, map, Bool as Boolean, true, false, Option, Some, None, pos, refl, sym, ◌∙◌, ap, subst, arith}
+use Rattle.std.proofs.Common.{◌≡◌, ℕ, inl, inr, List, [], ◌∷◌, ◌++◌, length, map, Option, Some, None, refl, sym, ◌∙◌, ap, subst}
 use Rattle.std.specs.Prelude.{slice_range, position, bytes_eq}
 use Rattle.std.proofs.lemmas.List.{map-append, length-map}
 use Rattle.perm_tree.specs.Places.{Listing}
-use Rattle.perm_tree.specs.declared.ast.Span.{Span}
 use Rattle.perm_tree.specs.declared.ast.Ident.{Ident}
-use Rattle.perm_tree.specs.declared.ast.Shape.TheVariants.{Class, Array}
+use Rattle.perm_tree.specs.declared.ast.Shape.TheVariants.{Class}
 use Rattle.perm_tree.specs.declared.ast.Ty.{Ty}
-use Rattle.perm_tree.specs.declared.ast.Ty.TheVariants.{Long, Bool, Ref}
+use Rattle.perm_tree.specs.declared.ast.Ty.TheVariants.{Ref}
 use Rattle.perm_tree.specs.declared.ast.Expr.{Expr}
-use Rattle.perm_tree.specs.declared.ast.Expr.TheVariants as node
 use Rattle.perm_tree.specs.declared.ast.Stmt.{Stmt}
 use Rattle.perm_tree.specs.declared.tokens.Token.{Token}
 use Rattle.perm_tree.specs.declared.tokens.TokenKind.{TokenKind}
 use Rattle.perm_tree.specs.declared.tokens.TokenKind.TheVariants as kinds
-use Rattle.perm_parse.specs.Grammar.{TypeTree, ExprTree, Is, IsVar, IsType, IsExpr, type_text, expr_text, looseness, unary_sign, sign, perm_word}
-use Rattle.perm_parse.specs.Levels.{type_levels, expr_levels}
-use Rattle.perm_parse.specs.Meaning.{numbered, named, ident, var_as, var, push_expr, push_stmt, push_mention, type_of, expr_of}
-use Rattle.perm_parse.specs.SameButSpans.{no_span, clear_ident, clear_expr, clear_stmt, clear_class, without_spans}
+use Rattle.perm_parse.specs.Grammar.{TypeTree, IsVar, IsType, type_text}
+use Rattle.perm_parse.specs.Levels.{type_levels}
+use Rattle.perm_parse.specs.Meaning.{numbered, named, ident, var_as, var, push_expr, push_stmt, push_mention, type_of}
+use Rattle.perm_parse.specs.SameButSpans.{no_span, clear_ident, clear_expr, clear_stmt, without_spans}
 
 -- ---- programs that are the same but for their spans
 
@@ -153,31 +151,51 @@ pub record LikeType (text other : List ℕ) (a b : TypeTree) : Type 0 where
 pub renew_type : (text other : List ℕ) (a : TypeTree) (us vs : List Token) → IsType a → Follow text other (type_text a us) vs → Renewed text other type_text (LikeType text other a) us vs
 renew_type text other (TypeTree.long_type u) us vs is h =
     let x = first h in
-    record { tree = TypeTree.long_type x.token; behind = x.behind; spells = x.is; rest = x.rest;
-      like = record { is = is-same x.alike is; levels = λ d ls. refl; means = λ s t k. record { ty = refl; rest = k } } }
+    record {
+      tree = TypeTree.long_type x.token;
+      behind = x.behind;
+      spells = x.is;
+      rest = x.rest;
+      like = record { is = is-same x.alike is; levels = λ d ls. refl; means = λ s t k. record { ty = refl; rest = k } };
+    }
 renew_type text other (TypeTree.bool_type u) us vs is h =
     let x = first h in
-    record { tree = TypeTree.bool_type x.token; behind = x.behind; spells = x.is; rest = x.rest;
-      like = record { is = is-same x.alike is; levels = λ d ls. refl; means = λ s t k. record { ty = refl; rest = k } } }
+    record {
+      tree = TypeTree.bool_type x.token;
+      behind = x.behind;
+      spells = x.is;
+      rest = x.rest;
+      like = record { is = is-same x.alike is; levels = λ d ls. refl; means = λ s t k. record { ty = refl; rest = k } };
+    }
 renew_type text other (TypeTree.object_type p perm name) us vs is h =
     let x = first h in
     let y = first x.rest in
-    record { tree = TypeTree.object_type p x.token y.token; behind = y.behind; spells = rw (y.is, x.is) refl; rest = y.rest;
+    record {
+      tree = TypeTree.object_type p x.token y.token;
+      behind = y.behind;
+      spells = rw (y.is, x.is) refl;
+      rest = y.rest;
       like = record {
         is = (is-same x.alike is.0, is-same y.alike is.1);
         levels = λ d ls. refl;
         means = λ s t k.
             let i = ident-same s t y.alike is.1 k in
             record { ty = ap (λ (z : Ident). Ref p (Class z.name)) i.ident; rest = push_mention-same _ _ _ _ i.ident i.rest };
-      } }
+      };
+    }
 renew_type text other (TypeTree.array_type p perm word opening closing) us vs is h =
     let x = first h in
     let y = first x.rest in
     let z = first y.rest in
     let w = first z.rest in
-    record { tree = TypeTree.array_type p x.token y.token z.token w.token; behind = w.behind; spells = rw (w.is, z.is, y.is, x.is) refl; rest = w.rest;
+    record {
+      tree = TypeTree.array_type p x.token y.token z.token w.token;
+      behind = w.behind;
+      spells = rw (w.is, z.is, y.is, x.is) refl;
+      rest = w.rest;
       like = record {
         is = (is-same x.alike is.0, is-same y.alike is.1, is-same z.alike is.2, is-same w.alike is.3);
         levels = λ d ls. refl;
         means = λ s t k. record { ty = refl; rest = k };
-      } }
+      };
+    }

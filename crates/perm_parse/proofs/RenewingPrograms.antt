@@ -1,18 +1,17 @@
 -- Other tokens that are alike are those of a program that is the same but for its spans.
-use Rattle.std.proofs.Common.{◌≡◌, ℕ, ◌+◌, List, [], ◌∷◌, ◌++◌, map, refl, sym, ◌∙◌, ap, subst}
+use Rattle.std.proofs.Common.{◌≡◌, ℕ, List, [], ◌∷◌, map, refl, sym, ◌∙◌, ap, subst}
 use Rattle.perm_tree.specs.Places.{Listing}
 use Rattle.perm_tree.specs.declared.ast.FieldDecl.{FieldDecl}
 use Rattle.perm_tree.specs.declared.ast.Method.{Method}
-use Rattle.perm_tree.specs.declared.ast.ClassDecl.{ClassDecl}
 use Rattle.perm_tree.specs.declared.tokens.Token.{Token}
 use Rattle.perm_parse.specs.Grammar.{ParamList, Params, MemberTree, Members, Classes, IsParamList, AreParams, IsMember, AreMembers, IsProgram, param_list_text, params_text, member_text, members_text, program_text}
-use Rattle.perm_parse.specs.Levels.{type_levels, arg_levels, stmts_levels, param_list_levels, params_levels, member_levels, members_levels, program_levels}
-use Rattle.perm_parse.specs.Meaning.{ident, param_list_of, params_of, method_of, member_of, members_of, classes_of, nothing_yet, meaning}
+use Rattle.perm_parse.specs.Levels.{type_levels, stmts_levels, param_list_levels, params_levels, member_levels, members_levels, program_levels}
+use Rattle.perm_parse.specs.Meaning.{param_list_of, params_of, member_of, members_of, classes_of, nothing_yet, meaning}
 use Rattle.perm_parse.specs.Parses.{Parses, Shallow}
 use Rattle.perm_parse.specs.SameButSpans.{no_span, clear_field, clear_method, clear_class, without_spans, SameButSpans}
-use Rattle.perm_parse.proofs.Renewing.{Same, last-same, AllAlike, Follow, First, first, is-same, SameIdent, ident-same, Renewed, SameType, LikeType, renew_type}
-use Rattle.perm_parse.proofs.RenewingExpressions.{SameArg, LikeArg, renew_arg}
-use Rattle.perm_parse.proofs.RenewingStatements.{SamePlaces, LikeStmts, renew_stmts}
+use Rattle.perm_parse.proofs.Renewing.{Same, last-same, AllAlike, Follow, first, is-same, ident-same, Renewed, renew_type}
+use Rattle.perm_parse.proofs.RenewingExpressions.{renew_arg}
+use Rattle.perm_parse.proofs.RenewingStatements.{renew_stmts}
 
 -- ---- parameters
 
@@ -29,7 +28,11 @@ renew_param_list : (text other : List ℕ) (a : ParamList) (us vs : List Token) 
 renew_param_list text other (ParamList.one_param ty name) us vs is h =
     let x = renew_type text other ty _ _ is.0 h in
     let y = first x.rest in
-    record { tree = ParamList.one_param x.tree y.token; behind = y.behind; spells = rw (y.is, x.spells) refl; rest = y.rest;
+    record {
+      tree = ParamList.one_param x.tree y.token;
+      behind = y.behind;
+      spells = rw (y.is, x.spells) refl;
+      rest = y.rest;
       like = record {
         is = (x.like.is, is-same y.alike is.1);
         levels = λ d ls. x.like.levels d (d ∷ ls);
@@ -37,13 +40,18 @@ renew_param_list text other (ParamList.one_param ty name) us vs is h =
             let m = x.like.means s t k in
             let n = ident-same _ _ y.alike is.1 m.rest in
             record { params = λ i. record { ty = m.ty i; name = n.ident i } ∷ []; rest = n.rest };
-      } }
+      };
+    }
 renew_param_list text other (ParamList.more_params list comma ty name) us vs is h =
     let l = renew_param_list text other list _ _ is.0 h in
     let c = first l.rest in
     let x = renew_type text other ty _ _ is.2 c.rest in
     let y = first x.rest in
-    record { tree = ParamList.more_params l.tree c.token x.tree y.token; behind = y.behind; spells = rw (y.is, x.spells, c.is, l.spells) refl; rest = y.rest;
+    record {
+      tree = ParamList.more_params l.tree c.token x.tree y.token;
+      behind = y.behind;
+      spells = rw (y.is, x.spells, c.is, l.spells) refl;
+      rest = y.rest;
       like = record {
         is = (l.like.is, is-same c.alike is.1, x.like.is, is-same y.alike is.3);
         levels = λ d ls. l.like.levels d _ ∙ ap (λ ks. param_list_levels d list (d ∷ ks)) (x.like.levels d (d ∷ ls));
@@ -52,7 +60,8 @@ renew_param_list text other (ParamList.more_params list comma ty name) us vs is 
             let m = x.like.means _ _ o.rest in
             let n = ident-same _ _ y.alike is.3 m.rest in
             record { params = last-same clear_field _ _ _ _ o.params (λ i. record { ty = m.ty i; name = n.ident i }); rest = n.rest };
-      } }
+      };
+    }
 
 pub record LikeParams (text other : List ℕ) (a b : Params) : Type 0 where
   pub is : AreParams b
@@ -64,8 +73,13 @@ renew_params text other Params.no_params us vs is h =
     record { tree = Params.no_params; behind = vs; spells = refl; rest = h; like = record { is = tt; levels = λ d ls. refl; means = λ s t k. record { params = refl; rest = k } } }
 renew_params text other (Params.params list) us vs is h =
     let y = renew_param_list text other list us vs is h in
-    record { tree = Params.params y.tree; behind = y.behind; spells = y.spells; rest = y.rest;
-      like = record { is = y.like.is; levels = λ d ls. y.like.levels d ls; means = λ s t k. y.like.means s t k } }
+    record {
+      tree = Params.params y.tree;
+      behind = y.behind;
+      spells = y.spells;
+      rest = y.rest;
+      like = record { is = y.like.is; levels = λ d ls. y.like.levels d ls; means = λ s t k. y.like.means s t k };
+    }
 
 -- ---- members
 
@@ -84,7 +98,11 @@ renew_member text other (MemberTree.field_member ty name end) us vs is h =
     let x = renew_type text other ty _ _ is.0 h in
     let y = first x.rest in
     let z = first y.rest in
-    record { tree = MemberTree.field_member x.tree y.token z.token; behind = z.behind; spells = rw (z.is, y.is, x.spells) refl; rest = z.rest;
+    record {
+      tree = MemberTree.field_member x.tree y.token z.token;
+      behind = z.behind;
+      spells = rw (z.is, y.is, x.spells) refl;
+      rest = z.rest;
       like = record {
         is = (x.like.is, is-same y.alike is.1, is-same z.alike is.2);
         levels = λ ls. x.like.levels 1 (1 ∷ 1 ∷ ls);
@@ -92,7 +110,8 @@ renew_member text other (MemberTree.field_member ty name end) us vs is h =
             let m = x.like.means s t k.rest in
             let n = ident-same _ _ y.alike is.1 m.rest in
             record { fields = last-same clear_field fs gs _ _ k.fields (λ i. record { ty = m.ty i; name = n.ident i }); methods = k.methods; rest = n.rest };
-      } }
+      };
+    }
 renew_member text other (MemberTree.method ty name opening list closing p perm start b word a end finish) us vs is h =
     let x1 = renew_type text other ty _ _ is.0 h in
     let x2 = first x1.rest in
@@ -127,7 +146,8 @@ renew_member text other (MemberTree.method ty name opening list closing p perm s
                   (λ i. record { result = m1.ty i; name = m2.ident i; params = m3.params i; receiver = p; body = record { stmts = m4.places i }; back = m5.arg i; span = no_span });
               rest = m5.rest;
             };
-      } }
+      };
+    }
 
 pub record LikeMembers (text other : List ℕ) (a b : Members) : Type 0 where
   pub is : AreMembers b
@@ -140,12 +160,17 @@ renew_members text other Members.no_members us vs is h =
 renew_members text other (Members.more_members list a) us vs is h =
     let x = renew_members text other list _ _ is.0 h in
     let y = renew_member text other a _ _ is.1 x.rest in
-    record { tree = Members.more_members x.tree y.tree; behind = y.behind; spells = rw (y.spells, x.spells) refl; rest = y.rest;
+    record {
+      tree = Members.more_members x.tree y.tree;
+      behind = y.behind;
+      spells = rw (y.spells, x.spells) refl;
+      rest = y.rest;
       like = record {
         is = (x.like.is, y.like.is);
         levels = λ ls. x.like.levels _ ∙ ap (members_levels list) (y.like.levels ls);
         means = λ s t k. let m = x.like.means s t k in y.like.means _ _ _ _ _ _ m;
-      } }
+      };
+    }
 
 -- ---- programs
 
@@ -164,7 +189,11 @@ renew_classes text other (Classes.more_classes list word name opening members cl
     let y = first x.rest in
     let z = renew_members text other members _ _ is.4 y.rest in
     let p = first z.rest in
-    record { tree = Classes.more_classes v.tree w.token x.token y.token z.tree p.token; behind = p.behind; spells = rw (p.is, z.spells, y.is, x.is, w.is, v.spells) refl; rest = p.rest;
+    record {
+      tree = Classes.more_classes v.tree w.token x.token y.token z.tree p.token;
+      behind = p.behind;
+      spells = rw (p.is, z.spells, y.is, x.is, w.is, v.spells) refl;
+      rest = p.rest;
       like = record {
         is = (v.like.is, is-same w.alike is.1, is-same x.alike is.2, is-same y.alike is.3, z.like.is, is-same p.alike is.5);
         levels = λ ls. v.like.levels _ ∙ ap (λ ks. program_levels list (0 ∷ 0 ∷ 1 ∷ ks)) (z.like.levels (0 ∷ ls));
@@ -174,7 +203,8 @@ renew_classes text other (Classes.more_classes list word name opening members cl
             let o = z.like.means _ _ n.rest in
             let more = last-same clear_class _ _ _ _ (ap (λ (q : Listing). q.classes) o.rest.same) (λ i. record { name = n.ident i; fields = o.fields i; methods = o.methods i }) in
             record { same = λ i. record (o.rest.same i) { classes = more i } };
-      } }
+      };
+    }
 
 -- the program of the other tokens
 pub record ParsesAlike (other : List ℕ) (tokens : List Token) (p : Listing) : Type 0 where
