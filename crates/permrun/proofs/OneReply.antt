@@ -1,10 +1,11 @@
 -- A text has one reply.
-use Rattle.std.proofs.Common.{◌≡◌, ℕ, List, None, Some, sym, ap, subst, ◌∙◌}
+use Rattle.std.proofs.Common.{◌≡◌, ℕ, ℤ, List, [], None, Some, refl, sym, ap, subst, ◌∙◌}
 use Rattle.perm_tree.specs.declared.errors.LexError.{LexError}
 use Rattle.perm_tree.specs.declared.errors.ParseError.{ParseError}
 use Rattle.perm_tree.specs.declared.errors.TableError.{TableError}
 use Rattle.perm_tree.specs.declared.place.Place.{Place}
 use Rattle.perm_tree.specs.declared.tokens.Token.{Token}
+use Rattle.perm_tree.specs.CodeOf.{code_of}
 use Rattle.perm_tree.specs.Names.{names_refusal}
 use Rattle.perm_tree.specs.Places.{Listing}
 use Rattle.perm_tree.specs.Resolves.{Resolves, resolved}
@@ -15,11 +16,14 @@ use Rattle.perm_lex.specs.Lexes.{Lexes}
 use Rattle.perm_lex.proofs.Refusals.{one_lexing, one_cause, not_both}
 use Rattle.perm_parse.specs.Parses.{Parses, IsRefused}
 use Rattle.perm_parse.proofs.OneAnswer.{one-answer}
+use Rattle.perm_meaning.specs.declared.End.TheVariants as ends
+use Rattle.perm_meaning.specs.Outcome.{Report, Ran, outcome}
 use Rattle.perm_step.specs.Straight.{IsStraight}
 use Rattle.perm_answer.specs.declared.Answer.TheVariants.{Usage, ReadFault, TooLong, Lex, Syntax, Table, Done}
+use Rattle.perm_answer.specs.declared.RunText.{RunText}
 use Rattle.permrun.specs.declared.run.Reply.{Reply}
 use Rattle.permrun.specs.declared.run.Reply.TheVariants.{Told, Unbuilt}
-use Rattle.permrun.specs.Programs.{IsProgramOf, IsUnitOf, IsLexical, IsSyntactic, IsOfNames, Runs, IsUnbuilt, IsReplyTo, lex_place, syntax_place, table_place}
+use Rattle.permrun.specs.Programs.{IsProgramOf, IsUnitOf, IsLexical, IsSyntactic, IsOfNames, Runs, IsUnbuilt, IsReplyTo, default_heap, default_turns, lex_place, syntax_place, table_place}
 
 module _ (text : List ℕ) where
   -- a byte has one place
@@ -80,3 +84,48 @@ module _ (text : List ℕ) where
 
   straight_apart : (unit : Tables) → IsUnitOf text unit → IsStraight unit → IsUnbuilt text → ⊥
   straight_apart unit reads straight b = b.other (subst IsStraight (one_unit unit b.unit reads b.reads) straight)
+
+  -- ---------- one run ----------
+  one_run : (n m : ℤ) (r q : RunText) → Runs text n r.printed → Runs text m q.printed → Told (Done n r) ≡ Told (Done m q)
+  one_run n m r q a b =
+      let unit = one_unit a.unit b.unit a.reads b.reads in
+      let ran : Ran a.run.report ≡ Ran b.run.report = sym a.run.ran ∙ (ap (λ u. outcome (code_of u) [] default_turns default_heap) unit ∙ b.run.ran) in
+      let report : a.run.report ≡ b.run.report = cc ran in
+      let done : ends.Done n ≡ ends.Done m = sym a.run.done ∙ (ap (λ (z : Report). z.ending) report ∙ b.run.done) in
+      let number : n ≡ m = cc done in
+      let printed = sym a.run.prints ∙ (ap (λ (z : Report). z.printed) report ∙ b.run.prints) in
+      λ i. Told (Done (number i) (record { printed = printed i }))
+
+  -- a text has no two replies
+  pub one_reply : (a b : Reply) → IsReplyTo text a → IsReplyTo text b → a ≡ b
+  one_reply (Told Usage) b x y = absurd x
+  one_reply (Told (ReadFault w)) b x y = absurd x
+  one_reply (Told (TooLong w)) b x y = absurd x
+  one_reply a (Told Usage) x y = absurd y
+  one_reply a (Told (ReadFault w)) x y = absurd y
+  one_reply a (Told (TooLong w)) x y = absurd y
+  one_reply (Told (Lex e p)) (Told (Lex f q)) x y = one_lexical e f p q x y
+  one_reply (Told (Lex e p)) (Told (Syntax f q)) x y = absurd (lexical_apart e p y.tokens x y.lexes)
+  one_reply (Told (Lex e p)) (Told (Table f q)) x y = absurd (lexical_apart e p y.reads.tokens x y.reads.lexes)
+  one_reply (Told (Lex e p)) (Told (Done m q)) x y = absurd (lexical_apart e p y.reads.reads.tokens x y.reads.reads.lexes)
+  one_reply (Told (Lex e p)) Unbuilt x y = absurd (lexical_apart e p y.reads.reads.tokens x y.reads.reads.lexes)
+  one_reply (Told (Syntax e p)) (Told (Lex f q)) x y = absurd (lexical_apart f q x.tokens y x.lexes)
+  one_reply (Told (Syntax e p)) (Told (Syntax f q)) x y = one_syntactic e f p q x y
+  one_reply (Told (Syntax e p)) (Told (Table f q)) x y = absurd (syntactic_apart e p y.program x y.reads)
+  one_reply (Told (Syntax e p)) (Told (Done m q)) x y = absurd (syntactic_apart e p y.reads.program x y.reads.reads)
+  one_reply (Told (Syntax e p)) Unbuilt x y = absurd (syntactic_apart e p y.reads.program x y.reads.reads)
+  one_reply (Told (Table e p)) (Told (Lex f q)) x y = absurd (lexical_apart f q x.reads.tokens y x.reads.lexes)
+  one_reply (Told (Table e p)) (Told (Syntax f q)) x y = absurd (syntactic_apart f q x.program y x.reads)
+  one_reply (Told (Table e p)) (Told (Table f q)) x y = one_of_names e f p q x y
+  one_reply (Told (Table e p)) (Told (Done m q)) x y = absurd (names_apart e p y.unit x y.reads)
+  one_reply (Told (Table e p)) Unbuilt x y = absurd (names_apart e p y.unit x y.reads)
+  one_reply (Told (Done n r)) (Told (Lex f q)) x y = absurd (lexical_apart f q x.reads.reads.tokens y x.reads.reads.lexes)
+  one_reply (Told (Done n r)) (Told (Syntax f q)) x y = absurd (syntactic_apart f q x.reads.program y x.reads.reads)
+  one_reply (Told (Done n r)) (Told (Table f q)) x y = absurd (names_apart f q x.unit y x.reads)
+  one_reply (Told (Done n r)) (Told (Done m q)) x y = one_run n m r q x y
+  one_reply (Told (Done n r)) Unbuilt x y = absurd (straight_apart x.unit x.reads x.run.straight y)
+  one_reply Unbuilt (Told (Lex f q)) x y = absurd (lexical_apart f q x.reads.reads.tokens y x.reads.reads.lexes)
+  one_reply Unbuilt (Told (Syntax f q)) x y = absurd (syntactic_apart f q x.reads.program y x.reads.reads)
+  one_reply Unbuilt (Told (Table f q)) x y = absurd (names_apart f q x.unit y x.reads)
+  one_reply Unbuilt (Told (Done m q)) x y = absurd (straight_apart y.unit y.reads y.run.straight x)
+  one_reply Unbuilt Unbuilt x y = refl

@@ -1,5 +1,5 @@
 -- Which reply the words and the files get, and what is written of it.
-use Rattle.std.specs.Prelude.{◌≡◌, ◌⊎◌, ℕ, ◌<◌, ◌≤◌, ◌==◌, Bool, false, List, [], ◌∷◌, ◌++◌, codes, length, Option, Some, None, if◌then◌else◌}
+use Rattle.std.specs.Prelude.{◌≡◌, ◌⊎◌, ℕ, ◌<◌, ◌≤◌, ◌==◌, Bool, false, List, [], ◌∷◌, codes, length, Option, Some, None, if◌then◌else◌}
 use Rattle.perm_base.specs.Counts.{Rose}
 use Rattle.perm_base.specs.Files.{Files, HasFile, HasNoFile, WhereTold}
 use Rattle.perm_base.specs.Pieces.{appended, AppendsPart}

@@ -19,6 +19,7 @@ use Rattle.perm_parse.specs.Parses.{Parses, IsRefused}
 use Rattle.perm_meaning.specs.declared.End.TheVariants as ends
 use Rattle.perm_meaning.specs.Outcome.{Report, Ran, outcome}
 use Rattle.perm_step.specs.Straight.{IsStraight}
+use Rattle.perm_answer.specs.Answers.{IsTold}
 use Rattle.perm_answer.specs.declared.Answer.{Answer}
 use Rattle.perm_answer.specs.declared.Answer.TheVariants.{Usage, ReadFault, TooLong, Lex, Syntax, Table, Done}
 use Rattle.permrun.specs.declared.run.Reply.{Reply}
@@ -93,15 +94,19 @@ default_turns = 2 ^ 40
 abbrev pub default_heap : ℕ
 default_heap = 2 ^ 20
 
--- its unit is straight, and the run of that gives back this number and prints these
-pub record Runs (text : List ℕ) (returned : ℤ) (printed : List ℤ) : Type 0 where
-  pub unit : Tables
-  pub reads : IsUnitOf text unit
+-- the unit is straight, and its run gives back this number and prints these
+pub record RunsUnit (unit : Tables) (returned : ℤ) (printed : List ℤ) : Type 0 where
   pub straight : IsStraight unit
   pub report : Report
   pub ran : outcome (code_of unit) [] default_turns default_heap ≡ Ran report
   pub done : report.ending ≡ ends.Done returned
   pub prints : report.printed ≡ printed
+
+-- so runs the unit of the text
+pub record Runs (text : List ℕ) (returned : ℤ) (printed : List ℤ) : Type 0 where
+  pub unit : Tables
+  pub reads : IsUnitOf text unit
+  pub run : RunsUnit unit returned printed
 
 -- its unit isn't straight
 pub record IsUnbuilt (text : List ℕ) : Type 0 where
@@ -123,3 +128,14 @@ IsAnswerTo text (Done returned run) = Runs text returned run.printed
 abbrev pub IsReplyTo : List ℕ → Reply → Type 0
 IsReplyTo text (Told answer) = IsAnswerTo text answer
 IsReplyTo text Unbuilt = IsUnbuilt text
+
+-- the reply to a unit
+abbrev pub IsReplyOf : Tables → Reply → Type 0
+IsReplyOf unit (Told (Done returned run)) = RunsUnit unit returned run.printed
+IsReplyOf unit (Told answer) = ⊥
+IsReplyOf unit Unbuilt = IsStraight unit → ⊥
+
+-- want of memory is no answer that is told
+abbrev pub HasText : Reply → Type 0
+HasText (Told answer) = IsTold answer
+HasText Unbuilt = Unit {0}

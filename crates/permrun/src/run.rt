@@ -5,20 +5,23 @@ ghost use Rattle.std.specs.Option.{option_copied};
 ghost use Rattle.perm_base.specs.Counts.{Rose};
 ghost use Rattle.perm_base.specs.Pieces.{appended};
 ghost use Rattle.perm_tree.specs.TextPlaces.{IsPlaceOf};
+ghost use Rattle.perm_answer.specs.declared.Answer.{Answer};
 ghost use Rattle.permrun.specs.declared.run.Reply.{Reply};
 ghost use Rattle.permrun.specs.Causes.{named_path, is_option, reply_status, reply_text, IsCaused, IsPlain, IsWritten};
-ghost use Rattle.permrun.specs.Programs.{begins_at, lex_place, syntax_place, table_place, IsReplyTo};
+ghost use Rattle.permrun.specs.Programs.{lex_place, syntax_place, table_place, HasText, IsReplyOf, IsReplyTo};
 
 use perm_answer::{Answer, RunText, Which, fill, status_of, text_room};
 use perm_base::{ReadFault, Shelf, Sink, read_text, write_all};
 use perm_lex::lex;
-use perm_meaning::End;
+use perm_meaning::{End, Outcome};
 use perm_parse::parse;
 use perm_step::{is_straight, run_alone};
 use perm_table::resolve;
 use perm_tree::errors::{LexError, NoMemory, ParseError, TableError};
+use perm_tree::list::Numbers;
 use perm_tree::place::{Place, place_of};
 use perm_tree::tokens::Token;
+use perm_tree::unit::Unit;
 use std::alloc::Global;
 
 /// The most bytes of a program's text.
@@ -83,6 +86,7 @@ fn write<K: Sink>(sink: &mut K, text: &[u8], status: u8) -> u8
 
 fn reply_to<F: Shelf>(alloc: Global, words: &[&str], shelf: &mut F) -> Result<Reply, NoMemory>
     ensures caused { IfOk result (IsCaused (F.told shelf.old) (F.faults shelf.old) (F.faults shelf.new) (named_path (map (λ w. w.now) words.now))) }
+    ensures told { IfOk result HasText }
     ensures files { F.told shelf.new ≡ F.told shelf.old }
 {
     let Some(path) = program_path(words) else {
@@ -124,7 +128,8 @@ fn begins_option(word: &[u8]) -> bool
 /// Reads a program's text and runs it without input.
 fn run_text(alloc: Global, text: &[u8]) -> Result<Reply, NoMemory>
     requires { length text.now ≤ 1048576 }
-    ensures { IfOk result (IsReplyTo text.now) }
+    ensures reply { IfOk result (IsReplyTo text.now) }
+    ensures told { IfOk result HasText }
 {
     let tokens = match lex(alloc, text) {
         Ok(tokens) => tokens,
@@ -144,19 +149,36 @@ fn run_text(alloc: Global, text: &[u8]) -> Result<Reply, NoMemory>
         Err(TableError::NoMemory) => return Err(NoMemory),
         Err(error) => return Ok(Reply::Told(Answer::Table(error, name_place(text, error)))),
     };
-    if !is_straight(alloc, &unit)? {
+    run_unit(alloc, &unit)
+}
+
+/// Runs a unit without input, where it is straight.
+fn run_unit(alloc: Global, unit: &Unit) -> Result<Reply, NoMemory>
+    ensures ran { IfOk result (IsReplyOf unit.now) }
+{
+    if !is_straight(alloc, unit)? {
         return Ok(Reply::Unbuilt);
     }
-    let outcome = run_alone(alloc, &unit, &[], DEFAULT_TURNS, DEFAULT_HEAP)?;
-    match outcome.end {
-        End::Done(returned) => Ok(Reply::Told(Answer::Done(
-            returned,
-            RunText {
-                printed: outcome.printed,
-            },
-        ))),
+    let outcome = run_alone(alloc, unit, &[], DEFAULT_TURNS, DEFAULT_HEAP)?;
+    let Outcome {
+        end,
+        printed,
+        spent: _,
+        need: _,
+        words: _,
+        root: _,
+    } = outcome;
+    match &end {
+        End::Done(returned) => Ok(done(returned, printed)),
         _ => unreachable!(),
     }
+}
+
+/// The reply to a run that gave back a number.
+fn done(returned: &i64, printed: Numbers) -> Reply
+    ensures { result ≡ Reply.Told (Answer.Done returned.now (record { printed = printed })) }
+{
+    Reply::Told(Answer::Done(*returned, RunText { printed }))
 }
 
 /// The place of a byte, or of the end of the text.

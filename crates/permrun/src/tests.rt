@@ -61,10 +61,19 @@ fn refusals_stand_at_their_places(rt: HostRuntime) -> Result<(), Fail> {
         ("class Main {", "11\nsyntax Unexpected 1:13\n"),
         ("{}();=+", "11\nsyntax Unexpected 1:1\n"),
         ("class A { } class A { }", "12\ntable DuplicateName 1:19\n"),
-        ("class Main { isolated B b; }", "12\ntable UnknownClass 1:23\n"),
+        (
+            "class Main { isolated B b; }",
+            "12\ntable UnknownClass 1:23\n",
+        ),
         ("class Main { }", "12\ntable NoMain\n"),
-        ("class A { }\n\nclass\n A { }", "12\ntable DuplicateName 4:2\n"),
-        ("class Main { long Run() writable { return 0; } }", "12\ntable BadMain 1:19\n"),
+        (
+            "class A { }\n\nclass\n A { }",
+            "12\ntable DuplicateName 4:2\n",
+        ),
+        (
+            "class Main { long Run() writable { return 0; } }",
+            "12\ntable BadMain 1:19\n",
+        ),
         (LIST, "9\nunbuilt\n"),
     ];
     for (text, wanted) in cases {
@@ -76,7 +85,9 @@ fn refusals_stand_at_their_places(rt: HostRuntime) -> Result<(), Fail> {
 
 /// A `Run` that returns a number behind so many opening parentheses.
 fn nested(alloc: Global, count: usize) -> Result<Vec<u8>, AllocError> {
-    let mut text = b"class Main { long Run(immutable long[] input) writable { return ".to_vec(alloc)?;
+    let mut text = b"class Main { long Run(immutable long[] input) writable { return ".to_vec(
+        alloc,
+    )?;
     for _ in 0..count {
         text.push(b'(').map_err(|_| AllocError)?;
     }
