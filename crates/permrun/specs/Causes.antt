@@ -53,7 +53,7 @@ IsWritten old new before now text wanted given =
     ((given ≡ wanted) × (new ≡ appended old text))
     ⊎ ((given ≡ 5) × Rose before now × AppendsPart old new text)
 
--- the words name a file of the shelf that has these bytes, not too many, and neither count rose
+-- the words name a file of the shelf, which tells its bytes: these, and not too many
 pub record IsPlain (told : Option Files) (path : Option (List ℕ)) (bytes : List ℕ) : Type 0 where
   pub name : List ℕ
   pub named : path ≡ Some name

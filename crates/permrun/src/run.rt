@@ -57,7 +57,7 @@ pub fn run_words<F: Shelf, K: Sink>(
         × IsCaused (F.told shelf.old) (F.faults shelf.old) (F.faults shelf.new) (named_path (map (λ w. w.now) words.now)) reply
         × IsWritten (K.told sink.old) (K.told sink.new) (K.faults sink.old) (K.faults sink.new) (reply_text reply) (reply_status reply) given) }
 
-    // A program of the shelf has one reply, and without a fault that is written and answered.
+    // Without a fault, any reply that a program of the shelf has is the one that is written and answered.
     ensures complete { IfOk result (λ given. (bytes : List ℕ) (reply : Reply)
         → IsPlain (F.told shelf.old) (named_path (map (λ w. w.now) words.now)) bytes → IsReplyTo bytes reply
         → (Rose (F.faults shelf.old) (F.faults shelf.new) → ⊥) → (Rose (K.faults sink.old) (K.faults sink.new) → ⊥)
