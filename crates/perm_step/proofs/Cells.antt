@@ -2,7 +2,7 @@
 use Rattle.std.proofs.Common.{◌≡◌, ◌≢◌, ℕ, zero, suc, ◌+◌, ◌<◌, ◌≤◌, List, [], ◌∷◌, ◌++◌, length, get_or, set, replicate, refl, sym, ap, ◌∙◌, subst, arith, inl, inr, eq-eqb, ne_eqb, le-leb, length-set, length-append, get_or-set_same, get_or-set_other}
 use Rattle.std.specs.Prelude.{ℤ, pos, nat_eq, cond, take, FitsSigned, ◌⊎◌}
 use mir.Syntax.{w64}
-use Rattle.std.proofs.lemmas.Bool.{cases_eq, lt-leb}
+use Rattle.std.proofs.lemmas.Bool.{cases_eq}
 use Rattle.std.proofs.lemmas.List.{length-replicate, take_more}
 use Rattle.perm_tree.specs.declared.ast.Shape.{Shape}
 use Rattle.perm_meaning.specs.Expressions.{clear}
@@ -46,10 +46,6 @@ more_cells ws n =
 -- an object that fits is found behind the words that were given
 pub make_found : (limit : ℕ) (ws : List ℕ) (shape : Shape) (n : ℕ) → length ws + size n ≤ limit → find (within limit) (Make tt shape n) (cells_of ws) ≡ Found (reference_word (length ws) (length_of shape n))
 make_found limit ws shape n room = ap (λ b. cond b (Found (reference_word (length ws) (length_of shape n))) Refused) (le-leb (length ws + size n) limit room)
-
--- one that doesn't fit is refused
-pub make_refused : (limit : ℕ) (ws : List ℕ) (shape : Shape) (n : ℕ) → limit < length ws + size n → find (within limit) (Make tt shape n) (cells_of ws) ≡ Refused
-make_refused limit ws shape n full = ap (λ b. cond b (Found (reference_word (length ws) (length_of shape n))) Refused) (lt-leb (length ws + size n) limit full)
 
 -- its words are 0
 pub make_after : (limit : ℕ) (ws : List ℕ) (shape : Shape) (n : ℕ) → length ws + size n ≤ limit → after (within limit) (Make tt shape n) (cells_of ws) ≡ cells_of (ws ++ replicate (size n) 0)

@@ -14,7 +14,6 @@ pub mod StraightCode
 pub mod StraightFits
 pub mod StraightMoments
 pub mod StraightRuns
-pub mod StraightStates
 pub mod StraightSteps
 pub mod StraightStmts
 pub mod StraightUnits

@@ -20,11 +20,9 @@ use Rattle.perm_meaning.specs.Meaning.{Moment, Result, Well, Gave, Handed, Fails
 use Rattle.perm_meaning.specs.Machine.{Trapped, NoTurns, NoRoom}
 use Rattle.perm_meaning.specs.Outcome.{Report, Outcome, Ran, RanFull, RanStuck, opening, opening_need, opening_heap, reported_result, outcome_from, outcome}
 use Rattle.perm_meaning.specs.Steps.{within}
-use Rattle.perm_meaning.specs.Claims.{opening_state}
 use Rattle.perm_step.specs.Straight.{Other, IsStraight, IsStraightCode}
 use Rattle.perm_step.proofs.StraightMoments.{Stands, AreFresh, other-name, IsOf64Bits, AllUnset}
 use Rattle.perm_step.proofs.StraightRuns.{Ends, Ends-more, steps, held-most, straight-ends}
-use Rattle.perm_step.proofs.StraightStates.{IsStraightState}
 use Rattle.perm_step.proofs.StraightCode.{straight_main, straight_code, straight_classes, straight_steps, long-types, main_types}
 
 -- ---------- outcomes ----------
@@ -120,10 +118,6 @@ module _ (u : Tables) (s : IsStraight u) where
     given = refl;
     fresh = first-names input;
   }
-
-  -- the machine of names begins in straight code
-  pub straight_opening-state : (input : List ℤ) (turns limit : ℕ) → IsStraightState fields variables (opening_state (code_of u) limit input turns start)
-  straight_opening-state input turns limit = record { held = Other ∷ Other ∷ []; code = straight_body; stack = refl; stands = straight_opening input turns }
 
   most-is : (input : List ℤ) → opening_need (code_of u) input + rest * size fields ≡ most_words input
   most-is input =
