@@ -11,13 +11,13 @@ use Rattle.perm_tree.specs.declared.tokens.Token.{Token}
 use Rattle.perm_tree.specs.declared.tokens.TokenKind.TheVariants as kinds
 use Rattle.perm_lex.specs.Lexes.{Piece, pieces_text, Lexes}
 use Rattle.perm_parse.specs.Grammar.{Classes, IsProgram, members_text, program_text}
-use Rattle.perm_parse.specs.Meaning.{ident, members_of, classes_of, nothing_yet, meaning}
+use Rattle.perm_parse.specs.Meaning.{ident, members_of, classes_of, nothing_yet}
 use Rattle.perm_parse.specs.Parses.{Parses}
 use Rattle.perm_parse.specs.SameButSpans.{SameButSpans}
 use Rattle.perm_parse.specs.ReadsBack.{ReadsBack}
 use Rattle.perm_parse.proofs.BareTrees.{bare_classes, bare_members}
 use Rattle.perm_parse.proofs.CanonicalPieces.{mark, space, line, name_piece, members_pieces, program_pieces}
-use Rattle.perm_parse.proofs.Growing.{Front, Grows, stays, then, ident-grows, members-grows, classes-grows}
+use Rattle.perm_parse.proofs.Growing.{Grows, stays, then, ident-grows, members-grows, classes-grows}
 use Rattle.perm_parse.proofs.Keeping.{ident-keeps, members-keeps}
 use Rattle.perm_parse.proofs.Parts.{class-join}
 use Rattle.perm_parse.proofs.WrittenExpressions.{HasThis, get-front, name-written}

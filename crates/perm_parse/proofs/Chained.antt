@@ -23,3 +23,7 @@ lexed-over text tokens l = λ k t e.
 -- a text of fewer than 2^32 bytes has fewer tokens than that
 pub lexed-few : (text : List ℕ) (tokens : List Token) → Lexes text tokens → length text < 2 ^ 32 → length tokens < 2 ^ 32
 lexed-few text tokens l lt = let h = few text tokens l in omega arith
+
+-- each token has a byte at least
+pub lexed-some : (text : List ℕ) (tokens : List Token) → Lexes text tokens → All (λ t. t.span.start < t.span.end) tokens
+lexed-some text tokens l = λ k d in_range. (within text tokens l k d in_range).0

@@ -1,5 +1,5 @@
 -- The pieces of a tree are those of a text, and write the tree's tokens.
-use Rattle.std.proofs.Common.{◌≡◌, ℕ, zero, suc, List, [], ◌∷◌, pos, refl}
+use Rattle.std.proofs.Common.{ℕ, suc, List, ◌∷◌, refl}
 use Rattle.perm_tree.specs.declared.ast.Perm.{Perm}
 use Rattle.perm_tree.specs.declared.ast.Perm.TheVariants.{Isolated, Immutable, Readable, Writable}
 use Rattle.perm_tree.specs.declared.ast.UnaryOp.{UnaryOp}
@@ -8,14 +8,13 @@ use Rattle.perm_tree.specs.declared.ast.BinaryOp.{BinaryOp}
 use Rattle.perm_tree.specs.declared.ast.BinaryOp.TheVariants as op
 use Rattle.perm_tree.specs.declared.tokens.Token.{Token}
 use Rattle.perm_tree.specs.declared.tokens.TokenKind.TheVariants as kinds
-use Rattle.perm_lex.specs.Tokens.{is_word_byte}
 use Rattle.perm_lex.specs.Lexes.{Piece, pieces_text}
 use Rattle.perm_lex.proofs.Runs.{Stops}
 use Rattle.perm_lex.proofs.Writing.{goes_on}
 use Rattle.perm_parse.specs.Grammar.{TypeTree, ExprTree, ArgTree, ArgList, Args, RecvTree, CallTree, TargetTree, RhsTree, BlockTree, StmtTree, Stmts, ParamList, Params, MemberTree, Members, Classes}
-use Rattle.perm_parse.specs.Grammar.{Is, IsVar, IsType, IsExpr, IsArg, IsArgList, AreArgs, IsRecv, IsCall, IsTarget, IsRhs, IsBlock, IsStmt, AreStmts, IsParamList, AreParams, IsMember, AreMembers, IsProgram}
+use Rattle.perm_parse.specs.Grammar.{Is, IsType, IsExpr, IsArg, IsArgList, AreArgs, IsRecv, IsCall, IsTarget, IsRhs, IsBlock, IsStmt, AreStmts, IsParamList, AreParams, IsMember, AreMembers, IsProgram}
 use Rattle.perm_parse.specs.Grammar.{type_text, expr_text, arg_text, arg_list_text, args_text, recv_text, call_text, target_text, rhs_text, block_text, stmt_text, stmts_text, param_list_text, params_text, member_text, members_text, program_text, perm_word, unary_sign, sign}
-use Rattle.perm_parse.proofs.CanonicalPieces.{mark, space, line, ending, name_piece, var_piece, indent_pieces, type_pieces, expr_pieces, arg_pieces, arg_list_pieces, args_pieces, recv_pieces, call_pieces, target_pieces}
+use Rattle.perm_parse.proofs.CanonicalPieces.{mark, space, ending, name_piece, type_pieces, expr_pieces, arg_pieces, arg_list_pieces, args_pieces, recv_pieces, call_pieces, target_pieces}
 use Rattle.perm_parse.proofs.CanonicalPieces.{rhs_pieces, block_pieces, stmt_pieces, stmts_pieces, param_list_pieces, params_pieces, member_pieces, members_pieces, program_pieces}
 use Rattle.perm_parse.proofs.Laying.{Lays, Starts, plainly, Ends, gap, newline, indented, word_laid, sign_laid, name_laid, var_laid, number_laid, name-starts, var-starts, number-starts}
 

@@ -10,6 +10,7 @@ pub mod Chained
 pub mod Choosing
 pub mod ClassParts
 pub mod Completion
+pub mod Declared
 pub mod Declaring
 pub mod Ending
 pub mod Exact
@@ -22,6 +23,9 @@ pub mod LayingTrees
 pub mod Leading
 pub mod Listing
 pub mod Making
+pub mod Marking
+pub mod MarkingTrees
+pub mod Mentioning
 pub mod Methods
 pub mod Numbering
 pub mod OneAnswer
@@ -51,6 +55,9 @@ pub mod Targets
 pub mod Trailing
 pub mod Typing
 pub mod Using
+pub mod Walked
+pub mod WellFormed
+pub mod Wording
 pub mod WrittenArguments
 pub mod WrittenExpressions
 pub mod WrittenMembers

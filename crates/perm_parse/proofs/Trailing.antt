@@ -1,10 +1,6 @@
 -- What stands behind a tree is the end of the tokens.
-use Rattle.std.proofs.Common.{◌≡◌, ℕ, ◌+◌, ◌<◌, ◌≤◌, List, [], ◌∷◌, ◌++◌, length, arith, subst, sym, ap}
-use Rattle.std.proofs.lemmas.List.{length-append}
+use Rattle.std.proofs.Common.{◌≡◌, ℕ, ◌+◌, ◌<◌, List, [], ◌∷◌, length, arith, subst, sym}
 use Rattle.perm_tree.specs.declared.tokens.Token.{Token}
-use Rattle.perm_tree.specs.declared.tokens.TokenKind.{TokenKind}
-use Rattle.perm_tree.specs.declared.tokens.TokenKind.TheVariants as kinds
-use Rattle.perm_lex.specs.Tokens.{IsToken}
 use Rattle.perm_lex.specs.Lexes.{Piece, piece_text, ArePieces, tokens_from, Lexes}
 use Rattle.perm_lex.specs.Lexes.Piece.{blank, line_comment, block_comment, token}
 use Rattle.perm_lex.proofs.Unique.{token_some}

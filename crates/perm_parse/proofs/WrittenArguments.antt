@@ -1,5 +1,5 @@
 -- What is written of arguments, calls and targets is what the canonical text of the program has there.
-use Rattle.std.proofs.Common.{◌≡◌, ℕ, zero, suc, ◌+◌, List, [], ◌∷◌, ◌++◌, codes, Option, Some, None, refl, sym, ◌∙◌, ap, append_assoc, append-nil}
+use Rattle.std.proofs.Common.{◌≡◌, ℕ, zero, suc, List, [], ◌∷◌, ◌++◌, codes, refl, sym, ◌∙◌, ap}
 use Rattle.perm_tree.specs.Places.{Listing}
 use Rattle.perm_tree.specs.Canonical as canonical
 use Rattle.perm_tree.specs.Canonical.{joined, word}
@@ -9,11 +9,11 @@ use Rattle.perm_tree.specs.declared.ast.Arg.{Arg}
 use Rattle.perm_tree.specs.declared.tokens.Token.{Token}
 use Rattle.perm_tree.specs.declared.tokens.TokenKind.TheVariants as kinds
 use Rattle.perm_lex.specs.Lexes.{Piece, pieces_text}
-use Rattle.perm_parse.specs.Grammar.{TypeTree, ArgTree, ArgList, Args, RecvTree, CallTree, TargetTree, IsArg, IsArgList, AreArgs, IsRecv, IsCall, IsTarget}
-use Rattle.perm_parse.specs.Meaning.{ident, var, type_of, expr_of, arg_of, arg_list_of, args_of, recv_of, call_of, target_of}
+use Rattle.perm_parse.specs.Grammar.{TypeTree, ArgTree, ArgList, Args, RecvTree, CallTree, TargetTree, IsArg, IsArgList, AreArgs, IsRecv, IsCall}
+use Rattle.perm_parse.specs.Meaning.{ident, var, type_of, arg_of, arg_list_of, args_of, recv_of, call_of, target_of}
 use Rattle.perm_parse.proofs.BareTrees.{bare_arg, bare_arg_list, bare_args, bare_call}
-use Rattle.perm_parse.proofs.CanonicalPieces.{mark, space, ending, name_piece, var_piece, indent_pieces, type_pieces, arg_pieces, arg_list_pieces, args_pieces, recv_pieces, call_pieces, target_pieces}
-use Rattle.perm_parse.proofs.Growing.{Grows, then, ident-grows, var-grows, type-grows, expr-grows, arg-grows, args-grows, recv-grows}
+use Rattle.perm_parse.proofs.CanonicalPieces.{mark, space, name_piece, indent_pieces, type_pieces, arg_pieces, arg_list_pieces, args_pieces, recv_pieces, call_pieces, target_pieces}
+use Rattle.perm_parse.proofs.Growing.{Grows, then, ident-grows, arg-grows, args-grows}
 use Rattle.perm_parse.proofs.Parts.{one-part, two-parts, three-parts, comma-part, call-join}
 use Rattle.perm_parse.proofs.WrittenExpressions.{HasThis, name-written, var-written, type-written, expr-written}
 

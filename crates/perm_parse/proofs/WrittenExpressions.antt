@@ -1,7 +1,6 @@
 -- What is written of a name, a type or an expression is what the canonical text of the program has there.
-use Rattle.std.proofs.Common.{◌≡◌, ℕ, ◌+◌, ◌<◌, ◌≤◌, ◌⊎◌, inl, inr, List, [], ◌∷◌, ◌++◌, length, get_or, Bool as Boolean, true, false, ltb, leb, Option, Some, None, codes, pos, refl, sym, ◌∙◌, ap, subst, arith, append_assoc, append-nil}
+use Rattle.std.proofs.Common.{◌≡◌, ℕ, ◌<◌, inl, inr, List, [], ◌∷◌, ◌++◌, length, get_or, Bool as Boolean, true, false, ltb, leb, Option, Some, None, codes, pos, refl, sym, ◌∙◌, ap, subst, arith, append_assoc, append-nil}
 use Rattle.std.specs.Prelude.{position, bytes_eq, slice_get}
-use Rattle.std.specs.Fmt.{signed_decimal}
 use Rattle.std.proofs.Math.ListN.{get_or-append}
 use Rattle.std.proofs.Math.Seq.{get_or-append_seam}
 use Rattle.std.proofs.lemmas.List.{length-append}
@@ -9,7 +8,6 @@ use Rattle.std.proofs.lemmas.List.Quantifiers.{position-Some}
 use Rattle.std.proofs.lemmas.Option.{slice_get-get_or}
 use Rattle.std.proofs.lemmas.Slice.Eq.{bytes_eq-Decides}
 use Rattle.perm_tree.specs.Places.{Listing}
-use Rattle.perm_tree.specs.Entries.{entries_of}
 use Rattle.perm_tree.specs.Canonical as canonical
 use Rattle.perm_tree.specs.Canonical.{joined, word, Written, tight, operand, written, written_at, all_written, perm_text, operator_text, sign_text}
 use Rattle.perm_tree.specs.declared.ast.Perm.{Perm}
@@ -25,11 +23,11 @@ use Rattle.perm_tree.specs.declared.tokens.TokenKind.TheVariants as kinds
 use Rattle.perm_tree.proofs.Entries.{ReadsBefore, entries_of-at}
 use Rattle.perm_lex.specs.Lexes.{Piece, pieces_text}
 use Rattle.perm_parse.specs.Grammar.{TypeTree, ExprTree, IsVar, IsExpr, looseness, level, perm_word, unary_sign, sign}
-use Rattle.perm_parse.specs.Meaning.{numbered, named, ident, var_as, var, push_expr, type_of, expr_of}
-use Rattle.perm_parse.proofs.CanonicalTrees.{bare, enclosed, left_operand, right_operand}
+use Rattle.perm_parse.specs.Meaning.{numbered, ident, var_as, var, push_expr, type_of, expr_of}
+use Rattle.perm_parse.proofs.CanonicalTrees.{bare, enclosed, right_operand}
 use Rattle.perm_parse.proofs.CanonicalPieces.{spelled_as, mark, space, name_bytes, name_piece, var_piece_as, var_piece, type_pieces, expr_pieces}
 use Rattle.perm_parse.proofs.Parts.{joined-append}
-use Rattle.perm_parse.proofs.Growing.{Front, front-length, Grows, then, ident-grows, var-grows, expr-grows, push_expr-grows}
+use Rattle.perm_parse.proofs.Growing.{Front, front-length, Grows, then, expr-grows, push_expr-grows}
 
 -- ---- lists that begin with others
 

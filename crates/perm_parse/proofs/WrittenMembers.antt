@@ -1,5 +1,5 @@
 -- What is written of the members of a class is what the canonical text of the program has there, in the order of the names.
-use Rattle.std.proofs.Common.{◌≡◌, ℕ, ◌+◌, ◌<◌, List, [], ◌∷◌, ◌++◌, map, codes, refl, sym, ◌∙◌, ap, subst, append_assoc, append-nil}
+use Rattle.std.proofs.Common.{◌≡◌, ℕ, ◌<◌, List, [], ◌∷◌, ◌++◌, map, codes, refl, sym, ◌∙◌, ap, append_assoc, append-nil}
 use Rattle.std.proofs.lemmas.List.{map-append}
 use Rattle.perm_tree.specs.Places.{Listing}
 use Rattle.perm_tree.specs.Canonical.{joined, perm_text}
@@ -13,13 +13,13 @@ use Rattle.perm_lex.specs.Lexes.{Piece, pieces_text}
 use Rattle.perm_parse.specs.Grammar.{ParamList, Params, MemberTree, Members, IsMember, AreMembers, perm_word, member_text, members_text}
 use Rattle.perm_parse.specs.Meaning.{ident, type_of, arg_of, stmts_of, param_list_of, params_of, method_of, member_of, members_of}
 use Rattle.perm_parse.proofs.BareTrees.{bare_arg, bare_stmts, bare_member, bare_members}
-use Rattle.perm_parse.proofs.CanonicalPieces.{spelled_as, mark, space, line, ending, name_piece, type_pieces, arg_pieces, stmts_pieces, param_list_pieces, params_pieces, member_pieces, members_pieces}
-use Rattle.perm_parse.proofs.Growing.{Grows, then, ident-grows, type-grows, arg-grows, stmts-grows, param_list-grows, params-grows, member-grows}
+use Rattle.perm_parse.proofs.CanonicalPieces.{mark, space, line, ending, name_piece, type_pieces, arg_pieces, stmts_pieces, param_list_pieces, params_pieces, member_pieces, members_pieces}
+use Rattle.perm_parse.proofs.Growing.{Grows, then, ident-grows, type-grows, arg-grows, stmts-grows, params-grows, member-grows}
 use Rattle.perm_parse.proofs.Parts.{one-part, three-parts, and-part, comma-part, method-join}
 use Rattle.perm_parse.proofs.WrittenExpressions.{HasThis, perm-same}
 use Rattle.perm_parse.proofs.WrittenArguments.{arg-written, declared-written}
 use Rattle.perm_parse.proofs.WrittenStatements.{stmts-written}
-use Rattle.perm_parse.proofs.Trailing.{Ascending, AllBehind, member_name, from_name, name-trails, from-trails, members-trails}
+use Rattle.perm_parse.proofs.Trailing.{Ascending, AllBehind, member_name, name-trails, from-trails, members-trails}
 use Rattle.perm_parse.proofs.Sorting.{EachLess, sorted-last}
 
 -- ---- parameters

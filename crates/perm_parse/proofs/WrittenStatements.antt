@@ -1,5 +1,5 @@
 -- What is written of statements is what the canonical text of the program has there.
-use Rattle.std.proofs.Common.{◌≡◌, ℕ, suc, ◌+◌, List, [], ◌∷◌, ◌++◌, length, map, get_or, codes, Some, None, refl, sym, ◌∙◌, ap, append_assoc, append-nil, add-one}
+use Rattle.std.proofs.Common.{◌≡◌, ℕ, suc, ◌+◌, List, [], ◌∷◌, ◌++◌, length, get_or, codes, refl, sym, ◌∙◌, ap, add-one}
 use Rattle.std.proofs.lemmas.List.{map-append}
 use Rattle.perm_tree.specs.Places.{Listing}
 use Rattle.perm_tree.specs.Canonical.{joined}
@@ -8,12 +8,12 @@ use Rattle.perm_tree.specs.CanonicalText.{Wording, wording, indent, name_text, b
 use Rattle.perm_tree.proofs.Entries.{entries_of-at}
 use Rattle.perm_tree.specs.declared.tokens.TokenKind.TheVariants as kinds
 use Rattle.perm_lex.specs.Lexes.{Piece, pieces_text}
-use Rattle.perm_parse.specs.Grammar.{ExprTree, ArgTree, CallTree, RhsTree, BlockTree, StmtTree, Stmts, IsExpr, IsRhs, IsStmt, AreStmts}
-use Rattle.perm_parse.specs.Meaning.{ident, var, type_of, expr_of, arg_of, call_of, target_of, rhs_of, stmt_of, stmts_of, push_stmt}
+use Rattle.perm_parse.specs.Grammar.{ExprTree, RhsTree, BlockTree, StmtTree, Stmts, IsExpr, IsRhs, IsStmt, AreStmts}
+use Rattle.perm_parse.specs.Meaning.{ident, var, type_of, expr_of, arg_of, call_of, target_of, rhs_of, stmt_of, stmts_of}
 use Rattle.perm_parse.proofs.CanonicalTrees.{bare}
-use Rattle.perm_parse.proofs.BareTrees.{bare_arg, bare_rhs, bare_block, bare_stmt, bare_stmts}
-use Rattle.perm_parse.proofs.CanonicalPieces.{mark, space, line, ending, name_piece, var_piece, indent_pieces, expr_pieces, arg_pieces, rhs_pieces, block_pieces, stmt_pieces, stmts_pieces}
-use Rattle.perm_parse.proofs.Growing.{Grows, then, ident-grows, var-grows, expr-grows, arg-grows, rhs-grows, stmt-grows, stmts-grows, push_stmt-grows}
+use Rattle.perm_parse.proofs.BareTrees.{bare_arg, bare_rhs, bare_stmt, bare_stmts}
+use Rattle.perm_parse.proofs.CanonicalPieces.{mark, space, line, ending, name_piece, indent_pieces, expr_pieces, arg_pieces, rhs_pieces, stmt_pieces, stmts_pieces}
+use Rattle.perm_parse.proofs.Growing.{Grows, then, ident-grows, expr-grows, arg-grows, rhs-grows, stmt-grows, stmts-grows, push_stmt-grows}
 use Rattle.perm_parse.proofs.WrittenExpressions.{HasThis, slice-pushed, name-written, var-written, expr-written}
 use Rattle.perm_parse.proofs.WrittenArguments.{indent-written, arg-written, call-written, declared-written, target-written}
 use Rattle.perm_parse.proofs.StatementTexts.{stmt-reads}

@@ -1,5 +1,5 @@
 -- Programs that differ in nothing but their spans.
-use Rattle.std.specs.Prelude.{◌≡◌, List, map}
+use Rattle.std.specs.Prelude.{◌≡◌, map}
 use Rattle.perm_tree.specs.Places.{Listing}
 use Rattle.perm_tree.specs.declared.ast.Span.{Span}
 use Rattle.perm_tree.specs.declared.ast.Ident.{Ident}

@@ -1,6 +1,6 @@
 //! Classes, read by descent. A class stands at level 0.
 
-ghost use Rattle.std.specs.Prelude.{◌≡◌, ℕ, ◌+◌, ◌<◌, ◌≤◌, [], ◌∷◌, ◌++◌, length, OnOk, OnErr, IfOk, IfErr, ◌^◌, codes};
+ghost use Rattle.std.specs.Prelude.{◌≡◌, ℕ, ◌+◌, ◌<◌, ◌≤◌, All, AllPairs, [], ◌∷◌, ◌++◌, length, OnOk, OnErr, IfOk, IfErr, ◌^◌, codes};
 ghost use Rattle.perm_tree.specs.Places.{ClassPlaced};
 ghost use Rattle.perm_parse.specs.Meaning.{nothing_yet};
 ghost use Rattle.perm_parse.specs.Reading.{Onward};
@@ -12,17 +12,17 @@ use indexmap::IndexSet;
 use perm_tree::ast::ClassDecl;
 use perm_tree::errors::ParseError;
 use perm_tree::list::Name;
-use perm_tree::program::Program;
+use perm_tree::program::{Program, ProgramBuilder};
 use perm_tree::tokens::{Token, TokenKind};
 use std::alloc::Global;
 
 /// The program of no classes, whose only name is `this`.
-fn nothing_yet(alloc: Global) -> Result<Program, ParseError>
+fn nothing_yet(alloc: Global) -> Result<ProgramBuilder, ParseError>
     ensures ok { IfOk result (λ p. p ≡ nothing_yet) }
     ensures err { IfErr result (λ e. e ≡ ParseError.NoMemory) }
 {
     let this = b"this".to_vec(alloc).map_err(|_| ParseError::NoMemory)?;
-    let mut program = Program::new(alloc);
+    let mut program = ProgramBuilder::new(alloc);
     match program.push_name(Name::from_vec(this)) {
         Ok(_) => Ok(program),
         Err(_) => Err(ParseError::NoMemory),
@@ -45,6 +45,8 @@ fn this_alone<'a>(alloc: Global) -> Result<IndexSet<&'a [u8]>, ParseError>
 pub fn read(alloc: Global, text: &[u8], tokens: &[Token]) -> Result<Program, ParseError>
     requires few { length tokens.now < 2 ^ 32 }
     requires over { IsOver text.now tokens.now }
+    requires some { All (λ t. t.span.start < t.span.end) tokens.now }
+    requires order { AllPairs (λ a b. a.span.end ≤ b.span.start) tokens.now }
     ensures { Gives text.now tokens.now result }
 {
     let mut parser = Parser {
@@ -56,7 +58,7 @@ pub fn read(alloc: Global, text: &[u8], tokens: &[Token]) -> Result<Program, Par
         alloc,
     };
     parser.classes()?;
-    Ok(parser.program)
+    Ok(parser.program.finish())
 }
 
 impl<'a> Parser<'a> {

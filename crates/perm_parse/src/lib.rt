@@ -1,7 +1,7 @@
 //! The grammar: programs from tokens.
 #![tactic(auto)]
 
-ghost use Rattle.std.specs.Prelude.{◌≡◌, ◌≢◌, ◌<◌, ◌^◌, ◌⊎◌, ℕ, List, length, IfOk, IfErr, MatchResult};
+ghost use Rattle.std.specs.Prelude.{◌≡◌, ◌≢◌, ◌<◌, ◌≤◌, ◌^◌, ◌⊎◌, ℕ, All, AllPairs, List, length, IfOk, IfErr, MatchResult};
 ghost use Rattle.perm_tree.specs.Places.{Listing};
 ghost use Rattle.perm_tree.specs.declared.errors.ParseError.{ParseError};
 ghost use Rattle.perm_tree.specs.declared.tokens.Token.{Token};
@@ -35,6 +35,10 @@ pub fn parse(alloc: Global, text: &[u8], tokens: &[Token]) -> Result<Program, Pa
     requires few { length tokens.now < 2 ^ 32 }
     requires over { IsOver text.now tokens.now }
 
+    // Each token has a byte at least, and ends no later than the next one begins.
+    requires some { All (λ t. t.span.start < t.span.end) tokens.now }
+    requires order { AllPairs (λ a b. a.span.end ≤ b.span.start) tokens.now }
+
     // What is given is the program that the tokens are, and tokens that are one are refused only where memory runs out.
     ensures program { IfOk result (λ found. Parses text.now tokens.now found) }
     ensures only_program { (program : Listing) → Parses text.now tokens.now program → MatchResult result (λ found. found ≡ program) (λ e. e ≡ ParseError.NoMemory) }
@@ -58,9 +62,11 @@ pub fn reads_back()
         → (others : List Token) (other : Listing) → Lexes (canonical program) others → Parses (canonical program) others other → SameButSpans program other }
 {}
 
-/// The tokens of a text stand in it, and a text of fewer than 2^32 bytes has fewer tokens than that.
+/// The tokens of a text stand in it, in order, and a text of fewer than 2^32 bytes has fewer tokens than that.
 pub fn lexed()
     ensures over { (text : List ℕ) (tokens : List Token) → Lexes text tokens → IsOver text tokens }
+    ensures some { (text : List ℕ) (tokens : List Token) → Lexes text tokens → All (λ t. t.span.start < t.span.end) tokens }
+    ensures order { (text : List ℕ) (tokens : List Token) → Lexes text tokens → AllPairs (λ a b. a.span.end ≤ b.span.start) tokens }
     ensures few { (text : List ℕ) (tokens : List Token) → Lexes text tokens → length text < 2 ^ 32 → length tokens < 2 ^ 32 }
 {}
 

@@ -5,7 +5,7 @@ ghost use Rattle.perm_parse.specs.Tokens.{IsOver, spelled};
 
 use indexmap::IndexSet;
 use perm_tree::ast::{Block, Ident, Rhs, Ty};
-use perm_tree::program::Program;
+use perm_tree::program::ProgramBuilder;
 use perm_tree::tokens::Token;
 use std::alloc::Global;
 
@@ -15,7 +15,7 @@ pub struct Parser<'a> {
     pub text: &'a [u8],
     pub tokens: &'a [Token],
     pub at: usize,
-    pub program: Program,
+    pub program: ProgramBuilder,
     pub names: IndexSet<&'a [u8]>,
     pub alloc: Global,
     ghost few: { length tokens.now < 2 ^ 32 },

@@ -103,29 +103,30 @@ unknowns_by-append known is js = ap (map unknown) (filter-append (λ i. not (kno
     unknown : Ident → Complaint
     unknown i = record { at = i.span; rank = 2; what = UnknownClass i.span }
 
--- all groups one after another
-pub all-findings : (known : ℕ → Bool) (p : Listing) (tables : List MethodTable) (stmts : List Stmt) (mentions : List Ident) (classes : List ClassDecl) (ns ms : List Ident) (made unknown variables members past all : Option Complaint)
-    → stmts ≡ p.stmts → mentions ≡ p.mentions → classes ≡ p.classes → ns ≡ class_names p → ms ≡ class_names p
-    → made ≡ first_before (unknowns_by known (flat_map (λ s. made_class s.kind) stmts)) None
-    → unknown ≡ first_before (unknowns_by known mentions) made
-    → variables ≡ first_before (flat_map in_method tables) unknown
-    → members ≡ first_before (flat_map in_class classes) variables
-    → past ≡ first_before (passing Classes ns) members
-    → all ≡ first_before (doubles ms) past
-    → all ≡ first_before (findings known p tables) None
-all-findings known p tables stmts mentions classes ns ms made unknown variables members past all s m c n n' in_stmts in_mentions in_methods in_classes in_limit now =
-    let names = class_names p in
-    let behind3 = unknowns_by known (class_mentions p) in
-    let behind2 = flat_map in_method tables ++ behind3 in
-    let behind1 = flat_map in_class p.classes ++ behind2 in
+-- class names in types and behind `new`
+pub unknown-findings : (known : ℕ → Bool) (p : Listing) (stmts : List Stmt) (mentions : List Ident) (made unknown : Option Complaint) → stmts ≡ p.stmts → mentions ≡ p.mentions
+    → made ≡ first_before (unknowns_by known (flat_map (λ s. made_class s.kind) stmts)) None → unknown ≡ first_before (unknowns_by known mentions) made
+    → unknown ≡ first_before (unknowns_by known (class_mentions p)) None
+unknown-findings known p stmts mentions made unknown s m in_stmts in_mentions =
     let made_in = flat_map (λ (s : Stmt). made_class s.kind) p.stmts in
-    let unknown_is : unknown ≡ first_before behind3 None =
     in_mentions
     ∙ (λ j. first_before (unknowns_by known (m j)) (in_stmts j))
     ∙ ap (λ ss. first_before (unknowns_by known p.mentions) (first_before (unknowns_by known (flat_map (λ (s : Stmt). made_class s.kind) ss)) None)) s
     ∙ sym (first_before-append (unknowns_by known p.mentions) (unknowns_by known made_in) None)
-    ∙ ap (λ cs. first_before cs None) (sym (unknowns_by-append known p.mentions made_in)) in
-    let variables_is : variables ≡ first_before behind2 None = in_methods ∙ ap (first_before (flat_map in_method tables)) unknown_is ∙ sym (first_before-append (flat_map in_method tables) behind3 None) in
-    let members_is : members ≡ first_before behind1 None = in_classes ∙ (λ j. first_before (flat_map in_class (c j)) (variables_is j)) ∙ sym (first_before-append (flat_map in_class p.classes) behind2 None) in
-    let past_is : past ≡ first_before (passing Classes names ++ behind1) None = in_limit ∙ (λ j. first_before (passing Classes (n j)) (members_is j)) ∙ sym (first_before-append (passing Classes names) behind1 None) in
-    now ∙ (λ j. first_before (doubles (n' j)) (past_is j)) ∙ sym (first_before-append (doubles names) (passing Classes names ++ behind1) None)
+    ∙ ap (λ cs. first_before cs None) (sym (unknowns_by-append known p.mentions made_in))
+
+-- all groups one after another
+pub all-findings : (p : Listing) (tables : List MethodTable) (classes : List ClassDecl) (ns ms : List Ident) (unknown variables members past all : Option Complaint)
+    → classes ≡ p.classes → ns ≡ class_names p → ms ≡ class_names p
+    → variables ≡ first_before (flat_map in_method tables) unknown
+    → members ≡ first_before (flat_map in_class classes) variables
+    → past ≡ first_before (passing Classes ns) members
+    → all ≡ first_before (doubles ms) past
+    → all ≡ first_before (findings p tables) unknown
+all-findings p tables classes ns ms unknown variables members past all c n n' in_methods in_classes in_limit now =
+    let names = class_names p in
+    let behind2 = flat_map in_method tables in
+    let behind1 = flat_map in_class p.classes ++ behind2 in
+    let members_is : members ≡ first_before behind1 unknown = in_classes ∙ (λ j. first_before (flat_map in_class (c j)) (in_methods j)) ∙ sym (first_before-append (flat_map in_class p.classes) behind2 unknown) in
+    let past_is : past ≡ first_before (passing Classes names ++ behind1) unknown = in_limit ∙ (λ j. first_before (passing Classes (n j)) (members_is j)) ∙ sym (first_before-append (passing Classes names) behind1 unknown) in
+    now ∙ (λ j. first_before (doubles (n' j)) (past_is j)) ∙ sym (first_before-append (doubles names) (passing Classes names ++ behind1) unknown)

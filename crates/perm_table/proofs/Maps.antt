@@ -4,12 +4,14 @@ use Rattle.std.specs.Prelude.{map, slice_get, cond}
 use Rattle.std.specs.Map.{lookup}
 use Rattle.std.specs.Str.{bytes_eq}
 use Rattle.std.proofs.lemmas.List.{get_or-map, get_or-take, length-map, take_all, take_more}
+use Rattle.std.proofs.lemmas.Option.{slice_get-get_or}
 use Rattle.std.proofs.lemmas.Slice.Eq.{bytes_eq-Decides}
 use Rattle.indexmap.specs.IndexMap.{IndexMap, get, insert_entry}
 use Rattle.indexmap.proofs.CallerLemmas.{insert_entry-new}
 use Rattle.perm_tree.specs.declared.ast.ClassDecl.{ClassDecl}
-use Rattle.perm_tree.specs.Places.{Listing}
+use Rattle.perm_tree.specs.Places.{AllBelow, Listing}
 use Rattle.perm_tree.specs.Resolves.{class_word, class_words, HasDistinctWords, TakesNames}
+use Rattle.perm_tree.proofs.ClassMaps.{below-at}
 
 -- words with their places, of which the first is given
 abbrev pub placed_words : ℕ → List (List ℕ) → List (List ℕ × ℕ)
@@ -68,6 +70,14 @@ word-at p names classes c at n k within =
     ap (λ (ns : List (List ℕ)). get_or ns (get_or classes at c).name.name []) n
     ∙ ap (λ (cs : List ClassDecl). class_word p (get_or cs at c)) k
     ∙ sym (get_or-map (class_word p) p.classes at c [] there)
+
+-- the number of its name is in range
+pub number-at : (p : Listing) (names : List (List ℕ)) (classes : List ClassDecl) (c : ClassDecl) (at : ℕ) → names ≡ p.names → classes ≡ p.classes → AllBelow (length p.names) (map (λ d. d.name.name) p.classes)
+    → at < length classes → (get_or classes at c).name.name < length names
+number-at p names classes c at n k below within =
+    let range : AllBelow (length names) (map (λ (d : ClassDecl). d.name.name) classes) = subst (λ (ns : List (List ℕ)). AllBelow (length ns) (map (λ d. d.name.name) classes)) (sym n)
+    (subst (λ (cs : List ClassDecl). AllBelow (length p.names) (map (λ d. d.name.name) cs)) (sym k) below) in
+    below-at (length names) classes at (get_or classes at c) range (slice_get-get_or classes at c within)
 
 -- the map of all classes
 pub map-whole : (p : Listing) (entries : List (List ℕ × ℕ)) (classes : List ClassDecl) (at : ℕ) → classes ≡ p.classes → length classes ≤ at → entries ≡ placed_words 0 (take at (class_words p)) → TakesNames p entries

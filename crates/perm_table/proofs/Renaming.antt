@@ -1,6 +1,6 @@
 -- Numbers that are the places of classes make of a program the resolved one.
-use Rattle.std.proofs.Common.{◌≡◌, ℕ, suc, ◌+◌, Bool, true, false, List, [], ◌∷◌, ◌++◌, length, Option, None, refl, sym, ap, arith, ◌∙◌}
-use Rattle.std.specs.Prelude.{◌||◌, not, cond, map, filter, flat_map, option_map, nat_eq, nat_lt}
+use Rattle.std.proofs.Common.{◌≡◌, ℕ, suc, ◌+◌, Bool, true, false, List, [], ◌∷◌, ◌++◌, length, Option, None, refl, sym, ap, append_assoc, arith, ◌∙◌}
+use Rattle.std.specs.Prelude.{◌||◌, not, cond, map, filter, option_map, nat_eq, nat_lt}
 use Rattle.std.specs.List.{list_any, position_or_len}
 use Rattle.std.proofs.lemmas.Bool.{le-ltb, ltb-false, ltb-true, lt-ltb}
 use Rattle.perm_tree.specs.declared.ast.ClassDecl.{ClassDecl}
@@ -16,18 +16,18 @@ use Rattle.perm_tree.specs.declared.ast.StmtKind.{StmtKind}
 use Rattle.perm_tree.specs.declared.ast.StmtKind.TheVariants.{Declare, Assign, SetField, SetItem, Call as CallStmt, Print, If, While, Par}
 use Rattle.perm_tree.specs.declared.errors.TableError.{TableError}
 use Rattle.perm_tree.specs.declared.errors.TableError.TheVariants.{UnknownClass}
-use Rattle.perm_tree.specs.declared.errors.Limit.TheVariants.{Classes}
+use Rattle.perm_tree.specs.declared.program.Parts.{Parts}
 use Rattle.perm_tree.specs.declared.unit.MethodTable.{MethodTable}
 use Rattle.perm_tree.specs.Lookup.{class_place}
-use Rattle.perm_tree.specs.Names.{Complaint, class_mentions, class_names, complaints, doubles, first_of_all, in_class, in_method, main_run, names_refusal, passing, refusal_from, run_refusal, unknowns}
+use Rattle.perm_tree.specs.Names.{Complaint, class_mentions, class_names, complaints, first_of_all, main_run, names_refusal, refusal_from, run_refusal, unknowns}
 use Rattle.perm_tree.specs.Places.{Listing}
-use Rattle.perm_tree.specs.Resolves.{resolved, resolved_class, resolved_decl, resolved_kind, resolved_method, resolved_shape, resolved_stmt, resolved_ty}
+use Rattle.perm_tree.specs.Resolves.{resolved, resolved_class, resolved_decl, resolved_kind, resolved_mention, resolved_method, resolved_shape, resolved_stmt, resolved_ty, with_types, Resolves}
 use Rattle.perm_tree.specs.Scopes.{tables_of}
-use Rattle.perm_tree.proofs.ResolvedLaws.{names_refusal-resolved}
+use Rattle.perm_tree.proofs.ResolvedLaws.{class_names-same, mentions-same, names_refusal-typed}
 use Rattle.perm_table.specs.Findings.{findings, first_before, unknowns_by}
-use Rattle.perm_table.proofs.FirstFindings.{first_before-none}
+use Rattle.perm_table.proofs.FirstFindings.{first_before-append, first_before-none}
 use Rattle.perm_table.specs.declared.numbers.ClassNumbers.{ClassNumbers}
-use Rattle.perm_table.specs.Numbers.{knows_in, number_in, renamed_class, renamed_decl, renamed_kind, renamed_method, renamed_shape, renamed_stmt, renamed_ty}
+use Rattle.perm_table.specs.Numbers.{knows_in, number_in, renamed_class, renamed_decl, renamed_kind, renamed_mention, renamed_method, renamed_shape, renamed_stmt, renamed_ty}
 
 -- ---------- class names in types ----------
 shape-same : (p : Listing) (s : Shape) → renamed_shape (class_place p) s ≡ resolved_shape p s
@@ -84,43 +84,59 @@ found-place false rest n m e = e ∙ cases (nat_lt n m) refl
     cases true q = let less = ltb-true n m q in sym (lt-ltb (1 + n) (suc m) (omega arith))
     cases false q = let least = ltb-false n m q in sym (le-ltb (1 + n) (suc m) (omega arith))
 
-any-place : (p : Listing) (name : ℕ) (cs : List ClassDecl) → list_any (λ i. nat_eq i.name name) (map (λ c. c.name) (map (resolved_class p) cs)) ≡ nat_lt (position_or_len (λ c. nat_eq c.name.name name) cs) (length cs)
-any-place p name [] = refl
-any-place p name (c ∷ cs) =
-    found-place (nat_eq c.name.name name) (list_any (λ i. nat_eq i.name name) (map (λ d. d.name) (map (resolved_class p) cs))) (position_or_len (λ d. nat_eq d.name.name name) cs) (length cs) (any-place p name cs)
+any-place : (name : ℕ) (cs : List ClassDecl) → list_any (λ i. nat_eq i.name name) (map (λ c. c.name) cs) ≡ nat_lt (position_or_len (λ c. nat_eq c.name.name name) cs) (length cs)
+any-place name [] = refl
+any-place name (c ∷ cs) =
+    found-place (nat_eq c.name.name name) (list_any (λ i. nat_eq i.name name) (map (λ d. d.name) cs)) (position_or_len (λ d. nat_eq d.name.name name) cs) (length cs) (any-place name cs)
 
 -- a test of class names that goes by places finds what is unknown
-unknowns-same : (p : Listing) (known : ℕ → Bool) (is : List Ident) → ((name : ℕ) → known name ≡ nat_lt (class_place p name) (length p.classes)) → unknowns_by known is ≡ unknowns (class_names (resolved p)) is
+unknowns-same : (p : Listing) (known : ℕ → Bool) (is : List Ident) → ((name : ℕ) → known name ≡ nat_lt (class_place p name) (length p.classes)) → unknowns_by known is ≡ unknowns (class_names p) is
 unknowns-same p known is same =
-    ap (λ (test : Ident → Bool). map unknown (filter (λ i. not (test i)) is)) (λ j i. (same i.name ∙ sym (any-place p i.name p.classes)) j)
+    ap (λ (test : Ident → Bool). map unknown (filter (λ i. not (test i)) is)) (λ j i. (same i.name ∙ sym (any-place i.name p.classes)) j)
   where
     unknown : Ident → Complaint
     unknown i = record { at = i.span; rank = 2; what = UnknownClass i.span }
 
--- what is found is what is refused
-pub found-refusal : (p : Listing) (known : ℕ → Bool) (found : Option Complaint) → ((name : ℕ) → known name ≡ nat_lt (class_place p name) (length p.classes))
-    → found ≡ first_before (findings known (resolved p) (tables_of (resolved p))) None
-    → refusal_from found (run_refusal (main_run (resolved p))) ≡ names_refusal p
-found-refusal p known found same is =
-    let q = resolved p in
-    let all : findings known q (tables_of q) ≡ complaints q =
-    ap (λ us. doubles (class_names q) ++ (passing Classes (class_names q) ++ (flat_map in_class q.classes ++ (flat_map in_method (tables_of q) ++ us)))) (unknowns-same p known (class_mentions q) same) in
-    ap (λ o. refusal_from o (run_refusal (main_run q))) (is ∙ first_before-none (findings known q (tables_of q)) ∙ ap first_of_all all) ∙ names_refusal-resolved p
+-- what is found in the resolved program and of class names is what is refused
+found-refusal : (p : Listing) (known : ℕ → Bool) → ((name : ℕ) → known name ≡ nat_lt (class_place p name) (length p.classes))
+    → refusal_from (first_before (findings (resolved p) (tables_of (resolved p))) (first_before (unknowns_by known (class_mentions p)) None)) (run_refusal (main_run (resolved p))) ≡ names_refusal p
+found-refusal p known same =
+    let q = with_types p in
+    let found = findings q (tables_of q) in
+    let unknown : unknowns_by known (class_mentions p) ≡ unknowns (class_names q) (class_mentions q) =
+    unknowns-same p known (class_mentions p) same ∙ (λ j. unknowns (sym (class_names-same p) j) (sym (mentions-same p) j)) in
+    let all : found ++ unknowns_by known (class_mentions p) ≡ complaints q = ap (λ us. found ++ us) unknown ∙ simp append_assoc in
+    ap (λ o. refusal_from o (run_refusal (main_run q))) (sym (first_before-append found (unknowns_by known (class_mentions p)) None) ∙ first_before-none (found ++ unknowns_by known (class_mentions p)) ∙ ap first_of_all all) ∙ names_refusal-typed p
 
 -- ---------- the whole ----------
-pub renamed-program : (p rest : Listing) (number : ℕ → ℕ) (cs cs0 : List ClassDecl) (ss ss0 : List Stmt) → rest ≡ record p { classes = []; stmts = [] }
-    → cs ≡ map (renamed_class number) cs0 → cs0 ≡ p.classes → ss ≡ map (renamed_stmt number) ss0 → ss0 ≡ p.stmts → ((name : ℕ) → number name ≡ class_place p name)
-    → record rest { classes = cs; stmts = ss } ≡ resolved p
-renamed-program p rest number cs cs0 ss ss0 left c c0 s s0 same =
+mentions-renamed : (p : Listing) (number : ℕ → ℕ) (is : List Ident) → ((name : ℕ) → number name ≡ class_place p name) → map (renamed_mention number) is ≡ map (resolved_mention p) is
+mentions-renamed p number is same = ap (λ (f : ℕ → ℕ). map (renamed_mention f) is) (λ i name. same name i)
+
+pub renamed-program : (p rest : Listing) (number : ℕ → ℕ) (old new : Parts) → rest ≡ record p { classes = []; stmts = []; mentions = [] } → old.classes ≡ p.classes → old.stmts ≡ p.stmts → old.mentions ≡ p.mentions
+    → new.classes ≡ map (renamed_class number) old.classes → new.stmts ≡ map (renamed_stmt number) old.stmts → new.mentions ≡ map (renamed_mention number) old.mentions → ((name : ℕ) → number name ≡ class_place p name)
+    → record rest { classes = new.classes; stmts = new.stmts; mentions = new.mentions } ≡ resolved p
+renamed-program p rest number old new left c0 s0 m0 c s m same =
     let classes = c ∙ ap (map (renamed_class number)) c0 ∙ classes-renamed p number p.classes same in
     let stmts = s ∙ ap (map (renamed_stmt number)) s0 ∙ stmts-renamed p number p.stmts same in
-    λ i. record (left i) { classes = classes i; stmts = stmts i }
+    let mentions = m ∙ ap (map (renamed_mention number)) m0 ∙ mentions-renamed p number p.mentions same in
+    λ i. record (left i) { classes = classes i; stmts = stmts i; mentions = mentions i }
 
-pub answered : (p q : Listing) (tables ts : List MethodTable) (n : ClassNumbers) (r : Option TableError) → q ≡ resolved p → tables ≡ tables_of q → ts ≡ tables
-    → ((name : ℕ) → number_in n name ≡ class_place p name) → n.count ≡ length p.classes
-    → r ≡ refusal_from (first_before (findings (knows_in n) q ts) None) (run_refusal (main_run q)) → r ≡ names_refusal p
-answered p q tables ts n r is t t' places count found =
+-- numbers of some classes, which are those of a program
+pub places-of : (p : Listing) (n : ClassNumbers) (classes : List ClassDecl) → classes ≡ p.classes → ((name : ℕ) → number_in n name ≡ position_or_len (λ c. nat_eq c.name.name name) classes) → (name : ℕ) → number_in n name ≡ class_place p name
+places-of p n classes is places name = places name ∙ ap (position_or_len (λ (c : ClassDecl). nat_eq c.name.name name)) is
+
+-- what is answered by these numbers
+pub answered : (p q : Listing) (tables ts : List MethodTable) (n : ClassNumbers) (classes : List ClassDecl) (unknown : Option Complaint) (r : Option TableError) → q ≡ resolved p → tables ≡ tables_of q → ts ≡ tables → classes ≡ p.classes
+    → ((name : ℕ) → number_in n name ≡ position_or_len (λ c. nat_eq c.name.name name) classes) → n.count ≡ length classes → unknown ≡ first_before (unknowns_by (knows_in n) (class_mentions p)) None
+    → r ≡ refusal_from (first_before (findings q ts) unknown) (run_refusal (main_run q)) → r ≡ names_refusal p
+answered p q tables ts n classes unknown r is t t' k places count none found =
     let all : ts ≡ tables_of (resolved p) = t' ∙ t ∙ ap tables_of is in
+    let number = places-of p n classes k places in
+    let many : n.count ≡ length p.classes = count ∙ ap length k in
     found
-    ∙ (λ j. refusal_from (first_before (findings (knows_in n) (is j) (all j)) None) (run_refusal (main_run (is j))))
-    ∙ found-refusal p (knows_in n) (first_before (findings (knows_in n) (resolved p) (tables_of (resolved p))) None) (λ name j. nat_lt (places name j) (count j)) refl
+    ∙ (λ j. refusal_from (first_before (findings (is j) (all j)) (none j)) (run_refusal (main_run (is j))))
+    ∙ found-refusal p (knows_in n) (λ name j. nat_lt (number name j) (many j))
+
+-- where nothing is refused that is the unit
+pub resolves : (p q : Listing) (tables : List MethodTable) → q ≡ resolved p → tables ≡ tables_of q → names_refusal p ≡ None → Resolves p (record { program = q; tables = tables })
+resolves p q tables is t accepted = record { accepted = accepted; program = is; tables = t ∙ ap tables_of is }

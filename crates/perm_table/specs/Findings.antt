@@ -6,7 +6,7 @@ use Rattle.perm_tree.specs.declared.ast.Rhs.TheVariants.{New}
 use Rattle.perm_tree.specs.declared.errors.Limit.TheVariants.{Classes}
 use Rattle.perm_tree.specs.declared.errors.TableError.TheVariants.{UnknownClass}
 use Rattle.perm_tree.specs.declared.unit.MethodTable.{MethodTable}
-use Rattle.perm_tree.specs.Names.{Complaint, class_mentions, class_names, double_at, doubles, earlier, in_class, in_method, later, passing}
+use Rattle.perm_tree.specs.Names.{Complaint, class_names, double_at, doubles, earlier, in_class, in_method, later, passing}
 use Rattle.perm_tree.specs.Places.{Listing}
 use Rattle.perm_table.specs.declared.refusals.Finding.{Finding}
 
@@ -42,11 +42,10 @@ made_by _ = []
 abbrev pub unknowns_by : (ℕ → Bool) → List Ident → List Complaint
 unknowns_by known is = map (λ i. record { at = i.span; rank = 2; what = UnknownClass i.span }) (filter (λ i. not (known i.name)) is)
 
--- all that is refused at a name, by the tables of the methods and a test of class names
-abbrev pub findings : (ℕ → Bool) → Listing → List MethodTable → List Complaint
-findings known p tables =
+-- all that is refused at a name but for unknown classes, by the tables of the methods
+abbrev pub findings : Listing → List MethodTable → List Complaint
+findings p tables =
     doubles (class_names p)
     ++ (passing Classes (class_names p)
     ++ (flat_map in_class p.classes
-    ++ (flat_map in_method tables
-    ++ unknowns_by known (class_mentions p))))
+    ++ flat_map in_method tables))

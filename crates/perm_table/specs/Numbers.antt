@@ -6,6 +6,7 @@ use Rattle.perm_tree.specs.declared.ast.Shape.TheVariants.{Class, Array}
 use Rattle.perm_tree.specs.declared.ast.Ty.{Ty}
 use Rattle.perm_tree.specs.declared.ast.Ty.TheVariants.{Ref}
 use Rattle.perm_tree.specs.declared.ast.FieldDecl.{FieldDecl}
+use Rattle.perm_tree.specs.declared.ast.Ident.{Ident}
 use Rattle.perm_tree.specs.declared.ast.Stmt.{Stmt}
 use Rattle.perm_tree.specs.declared.ast.StmtKind.{StmtKind}
 use Rattle.perm_tree.specs.declared.ast.StmtKind.TheVariants.{Declare, Assign}
@@ -57,3 +58,7 @@ renamed_kind number k = k
 -- so in a statement
 abbrev pub renamed_stmt : (ℕ → ℕ) → Stmt → Stmt
 renamed_stmt number s = record s { kind = renamed_kind number s.kind }
+
+-- so where a class is mentioned
+abbrev pub renamed_mention : (ℕ → ℕ) → Ident → Ident
+renamed_mention number i = record i { name = number i.name }

@@ -2,12 +2,13 @@
 
 ghost use Rattle.std.specs.Prelude.{◌≡◌, ℕ, IfOk, length, map, nat_eq};
 ghost use Rattle.std.specs.List.{position_or_len};
-ghost use Rattle.perm_table.specs.Numbers.{knows_in, number_in, renamed_class, renamed_decl, renamed_kind, renamed_method, renamed_shape, renamed_stmt, renamed_ty};
+ghost use Rattle.perm_table.specs.Numbers.{knows_in, number_in, renamed_class, renamed_decl, renamed_kind, renamed_mention, renamed_method, renamed_shape, renamed_stmt, renamed_ty};
 
 use indexmap::IndexMap;
-use perm_tree::ast::{ClassDecl, FieldDecl, Method, Shape, Stmt, StmtKind, Ty};
+use perm_tree::ast::{ClassDecl, FieldDecl, Ident, Method, Shape, Stmt, StmtKind, Ty};
 use perm_tree::errors::NoMemory;
 use perm_tree::list::List;
+use perm_tree::program::Parts;
 use std::alloc::Global;
 
 /// The numbers of classes, by the numbers of their names. A name that no class has gets the number of classes.
@@ -139,11 +140,7 @@ impl ClassNumbers {
         })
     }
 
-    pub fn classes(
-        &self,
-        alloc: Global,
-        classes: List<ClassDecl>,
-    ) -> Result<List<ClassDecl>, NoMemory>
+    fn classes(&self, alloc: Global, classes: List<ClassDecl>) -> Result<List<ClassDecl>, NoMemory>
         ensures { IfOk result (λ l. l ≡ map (renamed_class (number_in self.now)) classes) }
     {
         let mut renamed = List::new(alloc);
@@ -173,7 +170,7 @@ impl ClassNumbers {
         }
     }
 
-    pub fn stmts(&self, alloc: Global, stmts: List<Stmt>) -> Result<List<Stmt>, NoMemory>
+    fn stmts(&self, alloc: Global, stmts: List<Stmt>) -> Result<List<Stmt>, NoMemory>
         ensures { IfOk result (λ l. l ≡ map (renamed_stmt (number_in self.now)) stmts) }
     {
         let renamed = stmts
@@ -182,6 +179,38 @@ impl ClassNumbers {
             .map(|stmt| self.stmt(stmt))
             .collect(alloc)?;
         Ok(List::from_vec(renamed))
+    }
+
+    fn mentions(&self, alloc: Global, mentions: List<Ident>) -> Result<List<Ident>, NoMemory>
+        ensures { IfOk result (λ l. l ≡ map (renamed_mention (number_in self.now)) mentions) }
+    {
+        let renamed = mentions
+            .into_vec()
+            .into_iter()
+            .map(|mention| Ident {
+                name: self.number(mention.name),
+                span: mention.span,
+            })
+            .collect(alloc)?;
+        Ok(List::from_vec(renamed))
+    }
+
+    /// The parts of a program with the numbers of classes for their names.
+    pub fn parts(&self, alloc: Global, parts: Parts) -> Result<Parts, NoMemory>
+        ensures classes { IfOk result (λ r. r.classes ≡ map (renamed_class (number_in self.now)) parts.classes) }
+        ensures stmts { IfOk result (λ r. r.stmts ≡ map (renamed_stmt (number_in self.now)) parts.stmts) }
+        ensures mentions { IfOk result (λ r. r.mentions ≡ map (renamed_mention (number_in self.now)) parts.mentions) }
+    {
+        let Parts {
+            classes,
+            stmts,
+            mentions,
+        } = parts;
+        Ok(Parts {
+            classes: self.classes(alloc, classes)?,
+            stmts: self.stmts(alloc, stmts)?,
+            mentions: self.mentions(alloc, mentions)?,
+        })
     }
 }
 

@@ -1,7 +1,7 @@
 //! The first refusal at a name. Refusals are met from the last to the first, so that those that come too late are passed over.
 
 ghost use Rattle.std.specs.Prelude.{◌≡◌, ◌≤◌, [], ◌∷◌, None, IfOk, map, flat_map, length, drop, option_to_list};
-ghost use Rattle.perm_tree.specs.Names.{double_at, doubles, earlier, field_names, in_class, in_method, is_before, later, made_class, method_names, most, passing, var_names};
+ghost use Rattle.perm_tree.specs.Names.{class_mentions, double_at, doubles, earlier, field_names, in_class, in_method, is_before, later, made_class, method_names, most, passing, var_names};
 ghost use Rattle.perm_table.specs.Numbers.{knows_in};
 ghost use Rattle.perm_table.specs.Findings.{doubles_of, findings, first_before, is_late, made_by, told, told_if, unknowns_by};
 
@@ -301,17 +301,23 @@ fn in_stmts(numbers: &ClassNumbers, stmts: &[Stmt], rest: Option<Finding>) -> Op
     first
 }
 
-/// The first refusal at a name.
+/// The first class name that no class has.
+pub fn first_unknown(program: &Program, numbers: &ClassNumbers) -> Option<Finding>
+    ensures { told_if result ≡ first_before (unknowns_by (knows_in numbers.now) (class_mentions program.now)) None }
+{
+    let made = in_stmts(numbers, program.stmts(), None);
+    in_mentions(numbers, program.mentions(), made)
+}
+
+/// The first refusal at a name, where that of a class name is given.
 pub fn first_finding(
     alloc: Global,
     program: &Program,
     tables: &[MethodTable],
-    numbers: &ClassNumbers,
+    unknown: Option<Finding>,
 ) -> Result<Option<Finding>, NoMemory>
-    ensures { IfOk result (λ f. told_if f ≡ first_before (findings (knows_in numbers.now) program.now tables.now) None) }
+    ensures { IfOk result (λ f. told_if f ≡ first_before (findings program.now tables.now) (told_if unknown)) }
 {
-    let made = in_stmts(numbers, program.stmts(), None);
-    let unknown = in_mentions(numbers, program.mentions(), made);
     let variables = in_methods(alloc, tables, unknown)?;
     let members = in_classes(alloc, program.classes(), variables)?;
     let names = class_names(alloc, program.classes())?;

@@ -2,6 +2,8 @@
 use Rattle.std.proofs.Common.{◌≡◌, ℕ, zero, suc, ◌+◌, ◌<◌, ◌≤◌, Bool, true, false, List, [], ◌∷◌, ◌++◌, length, Option, Some, None, refl, sym, ap, arith, ◌∙◌, eq-eqb}
 use Rattle.std.specs.Prelude.{◌||◌, not, map, filter, flat_map, slice_get, cond, nat_eq, if◌then◌else◌}
 use Rattle.std.specs.List.{list_any, position_or_len}
+use Rattle.std.proofs.lemmas.List.{map-append}
+use Rattle.std.proofs.lemmas.List.Elements.{filter-append}
 use Rattle.perm_tree.specs.declared.ast.ClassDecl.{ClassDecl}
 use Rattle.perm_tree.specs.declared.ast.Ident.{Ident}
 use Rattle.perm_tree.specs.declared.ast.Method.{Method}
@@ -11,8 +13,9 @@ use Rattle.perm_tree.specs.declared.errors.TableError.{TableError}
 use Rattle.perm_tree.specs.declared.errors.TableError.TheVariants.{UnknownClass, BadMain}
 use Rattle.perm_tree.specs.declared.unit.MethodTable.{MethodTable}
 use Rattle.perm_tree.specs.Lookup.{class_place}
-use Rattle.perm_tree.specs.Names.{Complaint, class_names, field_names, method_names, var_names, class_mentions, later, double_at, doubles, is_class_name, unknowns, most, passes, passing, in_class, in_method, complaints, first_of_all, main_run, is_good_run, run_refusal, refusal_from, names_refusal}
+use Rattle.perm_tree.specs.Names.{Complaint, class_names, field_names, method_names, var_names, class_mentions, later, double_at, doubles, is_class_name, unknowns, made_class, most, passes, passing, in_class, in_method, complaints, first_of_all, main_run, is_good_run, run_refusal, refusal_from, names_refusal}
 use Rattle.perm_tree.specs.Places.{Listing}
+use Rattle.perm_tree.specs.Resolves.{unmentioned}
 use Rattle.perm_tree.specs.Scopes.{tables_of}
 
 -- ---------- empty lists ----------
@@ -177,3 +180,30 @@ names_refusal-accepted p e = record {
 
     method : (n : ℕ) (t : MethodTable) → slice_get (tables_of p) n ≡ Some t → in_method t ≡ []
     method n t here = nil-flat_map in_method (tables_of p) n t (nil-left (flat_map in_method (tables_of p)) (unknowns (class_names p) (class_mentions p)) rest3) here
+
+-- ---------- without what is mentioned ----------
+unknowns-append : (cs is js : List Ident) → unknowns cs (is ++ js) ≡ unknowns cs is ++ unknowns cs js
+unknowns-append cs is js = ap (map complaint) (filter-append (λ i. not (is_class_name cs i)) is js) ∙ map-append complaint (filter (λ i. not (is_class_name cs i)) is) (filter (λ i. not (is_class_name cs i)) js)
+  where
+    complaint : Ident → Complaint
+    complaint i = record { at = i.span; rank = 2; what = UnknownClass i.span }
+
+-- where nothing is refused of the names of a program, nothing is refused of the others where what it mentions is left out
+pub names_refusal-unmentioned : (p : Listing) → names_refusal p ≡ None → names_refusal (unmentioned p) ≡ None
+names_refusal-unmentioned p e =
+    let made = flat_map (λ s. made_class s.kind) p.stmts in
+    let classes = doubles (class_names p) in
+    let limit = passing Classes (class_names p) in
+    let members = flat_map in_class p.classes in
+    let variables = flat_map in_method (tables_of p) in
+    let unknown = unknowns (class_names p) (p.mentions ++ made) in
+    let parts : (complaints p ≡ []) × (run_refusal (main_run p) ≡ None) = nothing-refused (complaints p) (run_refusal (main_run p)) e in
+    let behind1 = nil-right classes (limit ++ (members ++ (variables ++ unknown))) parts.0 in
+    let behind2 = nil-right limit (members ++ (variables ++ unknown)) behind1 in
+    let behind3 = nil-right members (variables ++ unknown) behind2 in
+    let last = nil-right (unknowns (class_names p) p.mentions) (unknowns (class_names p) made) (sym (unknowns-append (class_names p) p.mentions made) ∙ nil-right variables unknown behind3) in
+    let one = nil-left classes (limit ++ (members ++ (variables ++ unknown))) parts.0 in
+    let two = nil-left limit (members ++ (variables ++ unknown)) behind1 in
+    let three = nil-left members (variables ++ unknown) behind2 in
+    let four = nil-left variables unknown behind3 in
+    λ j. refusal_from (first_of_all (one j ++ (two j ++ (three j ++ (four j ++ last j))))) (parts.1 j)

@@ -1,12 +1,14 @@
 pub mod AcceptedNames
 pub mod Builder
 pub mod CanonicalRows
+pub mod ClassMaps
 pub mod CodeLaws
 pub mod CodeRows
 pub mod Entries
 pub mod Lows
 pub mod MentionLaws
 pub mod NameRows
+pub mod Nested
 pub mod ParPrograms
 pub mod PrintFits
 pub mod PrintMembers
@@ -17,8 +19,11 @@ pub mod ProgramTexts
 pub mod Programs
 pub mod Pushes
 pub mod ResolvedLaws
+pub mod ResolvedOrder
+pub mod ResolvedTypes
 pub mod RoutineLaws
 pub mod RunLaw
+pub mod ScopeRows
 pub mod Spelling
 pub mod StableSorts
 pub mod TableLaws

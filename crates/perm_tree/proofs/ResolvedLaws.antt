@@ -1,4 +1,4 @@
--- Resolving changes no name and no place: the unit of a placed program is resolved.
+-- Class names that become numbers in types change no name and no place.
 use Rattle.std.proofs.Common.{◌≡◌, ℕ, zero, suc, Bool, true, false, List, [], ◌∷◌, ◌++◌, length, Option, Some, None, refl, sym, ap, subst, ◌∙◌}
 use Rattle.std.specs.Prelude.{◌&&◌, map, flat_map, slice_get, get_or, find, cond, option_map}
 use Rattle.std.proofs.lemmas.List.{length-map, map-append}
@@ -23,10 +23,9 @@ use Rattle.perm_tree.specs.Lookup.{is_class_word}
 use Rattle.perm_tree.specs.Names.{Complaint, class_names, var_names, made_class, class_mentions, doubles, unknowns, passing, in_class, in_method, complaints, first_of_all, run_in, main_run, is_long, is_writable, is_input, takes_input, is_good_run, run_refusal, refusal_from, names_refusal}
 use Rattle.perm_tree.specs.declared.errors.Limit.TheVariants.{Classes, Fields, Methods, Variables}
 use Rattle.perm_tree.specs.Places.{Listing, KindPlaced, MethodPlaced, ClassPlaced, IsPlaced}
-use Rattle.perm_tree.specs.Resolves.{resolved_ty, resolved_decl, resolved_method, resolved_class, resolved_kind, resolved_stmt, resolved, Resolves, IsResolved}
+use Rattle.perm_tree.specs.Resolves.{resolved_ty, resolved_decl, resolved_method, resolved_class, resolved_kind, resolved_stmt, with_types, resolved}
 use Rattle.perm_tree.specs.Scopes.{declared_by, declared_if, declared_at, known_until, block_end, block_vars, braced_vars, else_stmts, rhs_vars, inner_vars, all_inner, param_var, method_vars, class_tables, tables_from, tables_of}
 use Rattle.perm_tree.specs.Spelling.{main_word, run_word, is_word}
-use Rattle.perm_tree.specs.UnitTables.{Tables}
 
 -- ---------- lists ----------
 map-twice : {A B C : Type 0} (f : B → C) (g : A → B) (xs : List A) → map f (map g xs) ≡ map (λ x. f (g x)) xs
@@ -37,7 +36,7 @@ map-same : {A B : Type 0} (f g : A → B) (xs : List A) → ((x : A) → f x ≡
 map-same f g xs same = ap (λ h. map h xs) (λ i x. same x i)
 
 -- where g changes nothing that f shows
-map-unseen : {A B : Type 0} (f : A → B) (g : A → A) (xs : List A) → ((x : A) → f (g x) ≡ f x) → map f (map g xs) ≡ map f xs
+pub map-unseen : {A B : Type 0} (f : A → B) (g : A → A) (xs : List A) → ((x : A) → f (g x) ≡ f x) → map f (map g xs) ≡ map f xs
 map-unseen f g xs same = map-twice f g xs ∙ map-same (λ x. f (g x)) f xs same
 
 flat_map-unseen : {A B : Type 0} (f : A → List B) (g : A → A) (xs : List A) → ((x : A) → f (g x) ≡ f x) → flat_map f (map g xs) ≡ flat_map f xs
@@ -227,9 +226,9 @@ module _ (p : Listing) where
   abbrev in_names : List Ident → List Complaint
   in_names is = doubles is ++ passing Variables is
 
-  methods-same : flat_map in_method (tables_of (resolved p)) ≡ flat_map in_method (tables_of p)
+  methods-same : flat_map in_method (tables_of (with_types p)) ≡ flat_map in_method (tables_of p)
   methods-same =
-      sym (flat_map-map in_names var_names (tables_of (resolved p)))
+      sym (flat_map-map in_names var_names (tables_of (with_types p)))
       ∙ ap (flat_map in_names) (tables-names (all_inner stmts) (all_inner p.stmts) 0 p.classes inner-same)
       ∙ flat_map-map in_names var_names (tables_of p)
 
@@ -251,10 +250,10 @@ module _ (p : Listing) where
   made-same (While e a) = refl
   made-same (Par a b) = refl
 
-  mentions-same : class_mentions (resolved p) ≡ class_mentions p
+  pub mentions-same : class_mentions (with_types p) ≡ class_mentions p
   mentions-same = ap (λ is. p.mentions ++ is) (flat_map-unseen (λ s. made_class s.kind) (resolved_stmt p) p.stmts (λ s. made-same s.kind))
 
-  class_names-same : class_names (resolved p) ≡ class_names p
+  pub class_names-same : class_names (with_types p) ≡ class_names p
   class_names-same = map-unseen (λ c. c.name) (resolved_class p) p.classes (λ c. refl)
 
   in_class-same : (c : ClassDecl) → in_class (resolved_class p c) ≡ in_class c
@@ -263,7 +262,7 @@ module _ (p : Listing) where
       let methods = map-unseen (λ d. d.name) (resolved_method p) c.methods (λ d. refl) in
       λ j. doubles (fields j ++ methods j) ++ (passing Fields (fields j) ++ passing Methods (methods j))
 
-  complaints-same : complaints (resolved p) ≡ complaints p
+  complaints-same : complaints (with_types p) ≡ complaints p
   complaints-same =
       let classes = flat_map-unseen in_class (resolved_class p) p.classes in_class-same in
       λ j. doubles (class_names-same j) ++ (passing Classes (class_names-same j) ++ (classes j ++ (methods-same j ++ unknowns (class_names-same j) (mentions-same j))))
@@ -301,24 +300,16 @@ module _ (p : Listing) where
   run_refusal-same None = refl
   run_refusal-same (Some d) = rw (is_good_run-same d)
 
-  run_in-same : (o : Option ClassDecl) → run_in (resolved p) (option_map (resolved_class p) o) ≡ option_map (resolved_method p) (run_in p o)
+  run_in-same : (o : Option ClassDecl) → run_in (with_types p) (option_map (resolved_class p) o) ≡ option_map (resolved_method p) (run_in p o)
   run_in-same None = refl
   run_in-same (Some c) = find-unseen (λ d. is_word p.names run_word d.name.name) (resolved_method p) c.methods (λ d. refl)
 
-  main_run-same : main_run (resolved p) ≡ option_map (resolved_method p) (main_run p)
+  main_run-same : main_run (with_types p) ≡ option_map (resolved_method p) (main_run p)
   main_run-same =
-      ap (run_in (resolved p)) (find-unseen (is_class_word p main_word) (resolved_class p) p.classes (λ c. refl)) ∙ run_in-same (find (is_class_word p main_word) p.classes)
+      ap (run_in (with_types p)) (find-unseen (is_class_word p main_word) (resolved_class p) p.classes (λ c. refl)) ∙ run_in-same (find (is_class_word p main_word) p.classes)
 
-  -- what is refused of the names of a program is refused of the resolved one
-  pub names_refusal-resolved : names_refusal (resolved p) ≡ names_refusal p
-  names_refusal-resolved =
+  -- what is refused of the names of a program is refused of the one with numbers in its types
+  pub names_refusal-typed : names_refusal (with_types p) ≡ names_refusal p
+  names_refusal-typed =
       let run = ap run_refusal main_run-same ∙ run_refusal-same (main_run p) in
       λ j. refusal_from (first_of_all (complaints-same j)) (run j)
-
--- the unit of a placed program is resolved
-pub Resolves-resolved : (p : Listing) (u : Tables) → IsPlaced p → Resolves p u → IsResolved u
-Resolves-resolved p u placed is = record {
-  placed = subst IsPlaced (sym is.program) (resolved-placed p placed);
-  accepted = ap names_refusal is.program ∙ names_refusal-resolved p ∙ is.accepted;
-  tables = is.tables ∙ ap tables_of (sym is.program);
-}

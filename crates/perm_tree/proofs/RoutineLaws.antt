@@ -12,7 +12,7 @@ use Rattle.perm_tree.specs.declared.unit.MethodTable.{MethodTable}
 use Rattle.perm_tree.specs.declared.unit.VarInfo.{VarInfo}
 use Rattle.perm_tree.specs.Code.{Routine}
 use Rattle.perm_tree.specs.CodeOf.{routine, code_of}
-use Rattle.perm_tree.specs.Resolves.{IsResolved}
+use Rattle.perm_tree.specs.Resolves.{unmentioned, IsResolved}
 use Rattle.perm_tree.specs.Scopes.{all_inner, block_vars, param_var}
 use Rattle.perm_tree.specs.UnitTables.{Tables}
 use Rattle.perm_tree.proofs.AcceptedNames.{names_refusal-accepted}
@@ -42,7 +42,7 @@ table-vars u at t d is here table = (types locals, vars, few)
 
     few : length (types t.vars) ≤ 256
     few =
-        let most = (names_refusal-accepted u.program is.accepted).few_variables at t (subst (λ (ts : List MethodTable). slice_get ts at ≡ Some t) is.tables here) in
+        let most = (names_refusal-accepted (unmentioned u.program) is.accepted).few_variables at t (subst (λ (ts : List MethodTable). slice_get ts at ≡ Some t) is.tables here) in
         omega (arith, most, length-map t.vars (λ (v : VarInfo). v.ty), length-map t.vars (λ (v : VarInfo). let i : Ident = record { name = v.name; span = v.declared } in i))
 
 pub IsResolved-vars : (u : Tables) (at : ℕ) (r : Routine) → IsResolved u → slice_get (code_of u).routines at ≡ Some r → HasVars r

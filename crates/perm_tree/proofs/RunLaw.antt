@@ -17,7 +17,7 @@ use Rattle.perm_tree.specs.CodeOf.{routine, code_of}
 use Rattle.perm_tree.specs.Lookup.{method_in, method_of, is_method_if, is_method_of, is_class_word, main_place, run_place}
 use Rattle.perm_tree.specs.Names.{run_in, main_run, is_long, is_writable, is_input, takes_input, is_good_run}
 use Rattle.perm_tree.specs.Places.{Listing}
-use Rattle.perm_tree.specs.Resolves.{IsResolved}
+use Rattle.perm_tree.specs.Resolves.{unmentioned, IsResolved}
 use Rattle.perm_tree.specs.Scopes.{method_vars, all_inner, class_tables, tables_from, tables_of}
 use Rattle.perm_tree.specs.Spelling.{main_word, run_word, is_word}
 use Rattle.perm_tree.specs.UnitTables.{Tables}
@@ -131,7 +131,7 @@ run-class p (Some c) d e = (c, refl, e)
 
 -- each resolved unit has its Run
 pub IsResolved-run : (u : Tables) → IsResolved u → HasRun u
-IsResolved-run u is = by_method (names_refusal-accepted p is.accepted).run
+IsResolved-run u is = by_method (names_refusal-accepted (unmentioned p) is.accepted).run
   where
     p : Listing
     p = u.program

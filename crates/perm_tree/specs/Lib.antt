@@ -8,13 +8,16 @@ pub mod Lows
 pub mod Members
 pub mod Mentions
 pub mod Names
+pub mod Nesting
 pub mod Pending
 pub mod Places
 pub mod Printing
 pub mod Resolves
 pub mod Scopes
 pub mod Spelling
+pub mod TextOrder
 pub mod TextPlaces
 pub mod Ties
 pub mod UnitTables
 pub mod Vars
+pub mod WellFormed

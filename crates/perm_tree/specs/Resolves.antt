@@ -1,5 +1,6 @@
 -- Programs in which types name classes by their names, and the units that they are resolved to.
-use Rattle.std.specs.Prelude.{◌≡◌, ◌≢◌, ℕ, AllPairs, List, [], map, Some, None, option_map, slice_get, get_or}
+use Rattle.std.specs.Prelude.{◌≡◌, ◌≢◌, ℕ, AllPairs, List, [], length, map, Some, None, option_map, slice_get, get_or}
+use Rattle.perm_tree.specs.declared.ast.Ident.{Ident}
 use Rattle.perm_tree.specs.declared.ast.Shape.{Shape}
 use Rattle.perm_tree.specs.declared.ast.Shape.TheVariants.{Class, Array}
 use Rattle.perm_tree.specs.declared.ast.Ty.{Ty}
@@ -12,9 +13,10 @@ use Rattle.perm_tree.specs.declared.ast.Method.{Method}
 use Rattle.perm_tree.specs.declared.ast.ClassDecl.{ClassDecl}
 use Rattle.perm_tree.specs.Lookup.{class_place}
 use Rattle.perm_tree.specs.Names.{names_refusal}
-use Rattle.perm_tree.specs.Places.{Listing, IsPlaced}
+use Rattle.perm_tree.specs.Places.{AllBelow, Listing}
 use Rattle.perm_tree.specs.Scopes.{tables_of}
 use Rattle.perm_tree.specs.UnitTables.{Tables}
+use Rattle.perm_tree.specs.WellFormed.{IsWellFormed, type_classes}
 
 -- ---------- class names become numbers ----------
 -- the name of a class becomes its number
@@ -50,8 +52,20 @@ abbrev pub resolved_stmt : Listing → Stmt → Stmt
 resolved_stmt p s = record s { kind = resolved_kind p s.kind }
 
 -- the program in which each class name in a type has become the number of its class
+abbrev pub with_types : Listing → Listing
+with_types p = record p { classes = map (resolved_class p) p.classes; stmts = map (resolved_stmt p) p.stmts }
+
+-- so where a class is mentioned
+abbrev pub resolved_mention : Listing → Ident → Ident
+resolved_mention p i = record i { name = class_place p i.name }
+
+-- so in both
 abbrev pub resolved : Listing → Listing
-resolved p = record p { classes = map (resolved_class p) p.classes; stmts = map (resolved_stmt p) p.stmts }
+resolved p = record (with_types p) { mentions = map (resolved_mention p) p.mentions }
+
+-- without what it mentions
+abbrev pub unmentioned : Listing → Listing
+unmentioned p = record p { mentions = [] }
 
 -- ---------- units ----------
 -- the unit of a program, of whose names nothing is refused
@@ -60,10 +74,11 @@ pub record Resolves (p : Listing) (u : Tables) : Type 0 where
   pub program : u.program ≡ resolved p
   pub tables : u.tables ≡ tables_of (resolved p)
 
--- what every resolved unit keeps: its places are in range, nothing is refused of its names, and its tables are those of its program
+-- what every resolved unit keeps: its program is well formed, nothing is refused of its names, the classes of its types are there, and its tables are those of its program
 pub record IsResolved (u : Tables) : Type 0 where
-  pub placed : IsPlaced u.program
-  pub accepted : names_refusal u.program ≡ None
+  pub formed : IsWellFormed u.program
+  pub accepted : names_refusal (unmentioned u.program) ≡ None
+  pub classes : AllBelow (length u.program.classes) (type_classes u.program)
   pub tables : u.tables ≡ tables_of u.program
 
 -- the bytes of the name of a class

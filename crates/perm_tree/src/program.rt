@@ -1,8 +1,9 @@
 //! Programs, which are built from the inside out.
 
-ghost use Rattle.std.specs.Prelude.{◌≡◌, ◌<◌, [], ◌∷◌, ◌++◌, length, slice_index, IfOk, OnErr, OnOk};
-ghost use Rattle.perm_tree.specs.Places.{ClassPlaced, ExprBelow, IsPlaced, KindPlaced};
+ghost use Rattle.std.specs.Prelude.{◌≡◌, ◌<◌, [], ◌∷◌, ◌++◌, length, map, slice_index, IfOk, OnErr, OnOk};
+ghost use Rattle.perm_tree.specs.Places.{AllBelow, ClassPlaced, ExprBelow, IsPlaced, KindPlaced};
 ghost use Rattle.perm_tree.specs.Lows.{low_in, lows_of};
+ghost use Rattle.perm_tree.specs.WellFormed.{IsOrderly, IsWellFormed};
 
 use crate::ast::{ClassDecl, Expr, Ident, Stmt};
 use crate::errors::NoMemory;
@@ -23,6 +24,38 @@ pub struct Program {
 
 impl Model for Program {
     ghost use Rattle.std.specs.Prelude.{◌≡◌};
+    ghost use Rattle.perm_tree.specs.Places.{Listing};
+    ghost use Rattle.perm_tree.specs.Lows.{lows_of};
+    ghost use Rattle.perm_tree.specs.WellFormed.{IsWellFormed};
+
+    ghost Value = { Listing };
+
+    ghost view = { λ p. record { names = p.names; classes = p.classes; stmts = p.stmts; exprs = p.exprs; mentions = p.mentions } };
+
+    ghost invariant = { λ p. IsWellFormed (record { names = p.names; classes = p.classes; stmts = p.stmts; exprs = p.exprs; mentions = p.mentions }) × (p.lows.items ≡ lows_of p.exprs) };
+}
+
+/// The parts of a program that name classes.
+#[derive(Drop)]
+pub struct Parts {
+    pub classes: List<ClassDecl>,
+    pub stmts: List<Stmt>,
+    pub mentions: List<Ident>,
+}
+
+/// A program that is being built. Nothing is asked of its names and spans until it is finished.
+#[derive(Drop)]
+pub struct ProgramBuilder {
+    names: List<Name>,
+    classes: List<ClassDecl>,
+    stmts: List<Stmt>,
+    exprs: List<Expr>,
+    mentions: List<Ident>,
+    lows: Vec<u32>,
+}
+
+impl Model for ProgramBuilder {
+    ghost use Rattle.std.specs.Prelude.{◌≡◌};
     ghost use Rattle.perm_tree.specs.Places.{Listing, IsPlaced};
     ghost use Rattle.perm_tree.specs.Lows.{lows_of};
 
@@ -34,17 +67,11 @@ impl Model for Program {
 }
 
 impl Program {
-    pub fn new(alloc: Global) -> Program
-        ensures { result ≡ record { names = []; classes = []; stmts = []; exprs = []; mentions = [] } }
+    /// What every program keeps.
+    pub fn well_formed(&self)
+        ensures { IsWellFormed self.now }
     {
-        Program {
-            names: List::new(alloc),
-            classes: List::new(alloc),
-            stmts: List::new(alloc),
-            exprs: List::new(alloc),
-            mentions: List::new(alloc),
-            lows: Vec::new(alloc),
-        }
+        let _ = &self.names;
     }
 
     pub fn names(&self) -> &[Name]
@@ -56,6 +83,7 @@ impl Program {
     pub fn classes(&self) -> &[ClassDecl]
         ensures value { result.now ≡ self.now.classes }
         ensures placed { IsPlaced self.now }
+        ensures named { AllBelow (length self.now.names) (map (λ c. c.name.name) self.now.classes) }
     {
         self.classes.as_slice()
     }
@@ -76,7 +104,7 @@ impl Program {
         self.exprs.as_slice()
     }
 
-    /// The class names in types and after `new`, in text order. A type holds no span, so these are where an unknown class is found.
+    /// The classes in types and after `new`, in text order. As in a type, the number is that of the class's name before names are resolved, and then that of the class. A type holds no span, so these are where an unknown class is found.
     pub fn mentions(&self) -> &[Ident]
         ensures { result.now ≡ self.now.mentions }
     {
@@ -89,6 +117,53 @@ impl Program {
         ensures { result ≡ slice_index (lows_of self.now.exprs) at }
     {
         self.lows[at as usize]
+    }
+
+    /// Takes a program apart, into what names classes and a builder of the rest.
+    pub fn into_parts(self, alloc: Global) -> (ProgramBuilder, Parts)
+        ensures rest { result.0 ≡ record self { classes = []; stmts = []; mentions = [] } }
+        ensures classes { result.1.classes ≡ self.classes }
+        ensures stmts { result.1.stmts ≡ self.stmts }
+        ensures mentions { result.1.mentions ≡ self.mentions }
+        ensures formed { IsWellFormed self }
+    {
+        let Program {
+            names,
+            classes,
+            stmts,
+            exprs,
+            mentions,
+            lows,
+        } = self;
+        let rest = ProgramBuilder {
+            names,
+            classes: List::new(alloc),
+            stmts: List::new(alloc),
+            exprs,
+            mentions: List::new(alloc),
+            lows,
+        };
+        let parts = Parts {
+            classes,
+            stmts,
+            mentions,
+        };
+        (rest, parts)
+    }
+}
+
+impl ProgramBuilder {
+    pub fn new(alloc: Global) -> ProgramBuilder
+        ensures { result ≡ record { names = []; classes = []; stmts = []; exprs = []; mentions = [] } }
+    {
+        ProgramBuilder {
+            names: List::new(alloc),
+            classes: List::new(alloc),
+            stmts: List::new(alloc),
+            exprs: List::new(alloc),
+            mentions: List::new(alloc),
+            lows: Vec::new(alloc),
+        }
     }
 
     /// Adds a name, and answers its number.
@@ -144,43 +219,44 @@ impl Program {
         Ok(at)
     }
 
-    /// Takes the classes and the statements out of a program. What is left has none.
-    pub fn split(self, alloc: Global) -> (Program, List<ClassDecl>, List<Stmt>)
-        ensures rest { result.0 ≡ record self { classes = []; stmts = [] } }
-        ensures classes { result.1 ≡ self.classes }
-        ensures stmts { result.2 ≡ self.stmts }
-        ensures placed { IsPlaced self }
+    /// The builder with other parts. Takes no memory.
+    pub fn with(self, parts: Parts) -> ProgramBuilder
+        requires { IsPlaced (record self { classes = parts.classes; stmts = parts.stmts; mentions = parts.mentions }) }
+        ensures { result ≡ record self { classes = parts.classes; stmts = parts.stmts; mentions = parts.mentions } }
     {
-        let Program {
+        let ProgramBuilder {
+            names,
+            exprs,
+            lows,
+            ..
+        } = self;
+        let Parts {
+            classes,
+            stmts,
+            mentions,
+        } = parts;
+        ProgramBuilder {
             names,
             classes,
             stmts,
             exprs,
             mentions,
             lows,
-        } = self;
-        let rest = Program {
-            names,
-            classes: List::new(alloc),
-            stmts: List::new(alloc),
-            exprs,
-            mentions,
-            lows,
-        };
-        (rest, classes, stmts)
+        }
     }
 
-    /// The program with other classes and statements. Takes no memory.
-    pub fn with(self, classes: List<ClassDecl>, stmts: List<Stmt>) -> Program
-        requires { IsPlaced (record self { classes = classes; stmts = stmts }) }
-        ensures { result ≡ record self { classes = classes; stmts = stmts } }
+    /// The program that was built. Takes no memory.
+    pub fn finish(self) -> Program
+        requires { IsOrderly self }
+        ensures { result ≡ self }
     {
-        let Program {
+        let ProgramBuilder {
             names,
+            classes,
+            stmts,
             exprs,
             mentions,
             lows,
-            ..
         } = self;
         Program {
             names,

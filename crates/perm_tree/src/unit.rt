@@ -1,7 +1,9 @@
 //! Programs whose names are resolved.
 
 ghost use Rattle.std.specs.Prelude.{◌≡◌};
-ghost use Rattle.perm_tree.specs.Resolves.{HasDistinctWords, IsResolved, TakesNames};
+ghost use Rattle.perm_tree.specs.Lookup.{class_place};
+ghost use Rattle.perm_tree.specs.Nesting.{AllNested};
+ghost use Rattle.perm_tree.specs.Resolves.{IsResolved, TakesNames};
 
 use crate::ast::{Span, Ty};
 use crate::list::{List, Name};
@@ -35,20 +37,20 @@ pub struct Unit {
 }
 
 impl Model for Unit {
-    ghost use Rattle.perm_tree.specs.Resolves.{HasDistinctWords, IsResolved, TakesNames};
+    ghost use Rattle.perm_tree.specs.Resolves.{IsResolved, TakesNames};
     ghost use Rattle.perm_tree.specs.UnitTables.{Tables};
 
     ghost Value = { Tables };
 
     ghost view = { λ u. record { program = u.program; tables = u.tables } };
 
-    ghost invariant = { λ u. IsResolved (record { program = u.program; tables = u.tables }) × (HasDistinctWords u.program → TakesNames u.program u.classes.entries) };
+    ghost invariant = { λ u. IsResolved (record { program = u.program; tables = u.tables }) × TakesNames u.program u.classes.entries };
 }
 
 impl Unit {
     pub fn new(program: Program, classes: IndexMap<Name, u32>, tables: List<MethodTable>) -> Unit
         requires resolved { IsResolved (record { program = program; tables = tables }) }
-        requires names { HasDistinctWords program → TakesNames program classes.entries }
+        requires names { TakesNames program classes.entries }
         ensures { result ≡ record { program = program; tables = tables } }
     {
         Unit {
@@ -66,9 +68,24 @@ impl Unit {
 
     /// What every unit keeps.
     pub fn resolved(&self)
-        ensures { IsResolved self.now }
+        ensures resolved { IsResolved self.now }
+        ensures nested { AllNested self.now.tables }
     {
         let _ = &self.program;
+    }
+
+    /// The number of the class with this name. A name that no class has gets the number of classes.
+    pub fn class_place(&self, name: u32) -> usize
+        ensures { result ≡ class_place self.now.program name }
+    {
+        let count = self.program.classes().len();
+        let Some(word) = self.program.names().get(name as usize) else {
+            return count;
+        };
+        match self.classes.get(word) {
+            Some(place) => *place as usize,
+            None => count,
+        }
     }
 
     pub fn tables(&self) -> &[MethodTable]

@@ -2,6 +2,11 @@
 
 use crate::run::run_words;
 use perm_base::{MemFile, MemShelf, MemSink};
+use perm_lex::{MOST_BYTES, lex};
+use perm_parse::parse;
+use perm_table::resolve;
+use perm_tree::ast::Span;
+use perm_tree::unit::Unit;
 use std::alloc::{AllocError, Global};
 use std::test::Fail;
 
@@ -79,6 +84,85 @@ fn refusals_stand_at_their_places(rt: HostRuntime) -> Result<(), Fail> {
     for (text, wanted) in cases {
         let answer = run_of(rt.alloc(), text.as_bytes())?;
         assert_eq!(rt; answer.as_str(), wanted, "of {text:?}");
+    }
+    Ok(())
+}
+
+#[test]
+fn the_first_refusal_of_names_is_told(rt: HostRuntime) -> Result<(), Fail> {
+    let cases = [
+        (
+            "class Main { long Run() writable { return 0; } } class Main { }",
+            "12\ntable DuplicateName 1:56\n",
+        ),
+        (
+            "class Main { isolated B x; long x; }",
+            "12\ntable UnknownClass 1:23\n",
+        ),
+        (
+            "class Main { long x; long x; isolated B y; }",
+            "12\ntable DuplicateName 1:27\n",
+        ),
+        (
+            "class Main { long Run(immutable long[] x) writable { par { long y; } { long y; } return 0; } }",
+            "12\ntable DuplicateName 1:77\n",
+        ),
+        (
+            "class Main { long Run(immutable long[] x) readable { return 0; } }",
+            "12\ntable BadMain 1:19\n",
+        ),
+        (
+            "class Main { long Run(immutable long[] x) writable { x = new B(); return 0; } }",
+            "12\ntable UnknownClass 1:62\n",
+        ),
+    ];
+    for (text, wanted) in cases {
+        let answer = run_of(rt.alloc(), text.as_bytes())?;
+        assert_eq!(rt; answer.as_str(), wanted, "of {text:?}");
+    }
+    Ok(())
+}
+
+/// The unit of a short text without a fault.
+fn unit_of(alloc: Global, text: &[u8]) -> Result<Unit, Fail> {
+    let end = text.len().min(MOST_BYTES);
+    let tokens = lex(alloc, &text[..end])?;
+    let program = parse(alloc, &text[..end], tokens.as_slice())?;
+    Ok(resolve(alloc, program)?)
+}
+
+#[test]
+fn variables_have_their_scopes(rt: HostRuntime) -> Result<(), Fail> {
+    let text =
+        b"class Main { long Run(immutable long[] x) writable { par { long y; long z; } { } long a; return 0; } }";
+    let unit = unit_of(rt.alloc(), text)?;
+    let tables = unit.tables();
+    assert_eq!(rt; tables.len(), 1);
+    let whole = Span { start: 18, end: 98 };
+    let scopes = [
+        whole,
+        whole,
+        Span { start: 64, end: 74 },
+        Span { start: 72, end: 74 },
+        Span { start: 86, end: 98 },
+    ];
+    let vars = tables[0].vars.as_slice();
+    assert_eq!(rt; vars.len(), scopes.len());
+    for (var, scope) in vars.iter().zip(scopes) {
+        assert_eq!(rt; var.scope, scope);
+    }
+    Ok(())
+}
+
+#[test]
+fn classes_are_found_by_their_names(rt: HostRuntime) -> Result<(), Fail> {
+    let text =
+        b"class B { } class Main { long Run(immutable long[] x) writable { return 0; } } class C { }";
+    let unit = unit_of(rt.alloc(), text)?;
+    // The names are `this`, `B`, `Main`, `Run`, `x` and `C`, in this order.
+    let places = [3, 0, 1, 3, 3, 2, 3];
+    for (name, place) in (0..7).zip(places) {
+        assert_eq!(rt; unit.class_place(name), place);
     }
     Ok(())
 }

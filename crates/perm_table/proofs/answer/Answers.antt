@@ -1,29 +1,19 @@
-use Rattle.std.proofs.Common.{◌∙◌, ap, sym}
-use Rattle.perm_tree.specs.Scopes.{tables_of}
-use Rattle.perm_tree.specs.UnitTables.{Tables}
-use Rattle.perm_tree.proofs.ResolvedLaws.{Resolves-resolved}
-use Rattle.perm_table.proofs.Renaming.{answered}
+use Rattle.std.proofs.Common.{◌∙◌, subst, sym}
+use Rattle.perm_tree.specs.Resolves.{Resolves}
+use Rattle.perm_tree.proofs.ResolvedTypes.{Resolves-resolved}
+use Rattle.perm_table.proofs.Renaming.{resolves}
 use Rattle.perm_table.proofs.answer.Goals as goal
 
-pub new-requires-clause-resolved : goal.new-requires-clause-resolved
-new-requires-clause-resolved c =
-    let unit : Tables = record { program = c.in_ok-numbered.numbered; tables = c.in_ok-tables.tables } in
-    Resolves-resolved c.args.program unit c.in_ok-numbered.ensures.placed (record {
-      accepted = sym (answered c.args.program c.in_ok-numbered.numbered c.in_ok-tables.tables c.as_slice.result.now c.in_ok-numbered.numbers c.in_ok-refusal.refusal c.in_ok-numbered.ensures.program c.in_ok-tables.ensures c.as_slice.ensures
-          c.in_ok-numbered.ensures.places c.in_ok-numbered.ensures.count c.in_ok-refusal.ensures) ∙ c.in-None.is;
-      program = c.in_ok-numbered.ensures.program;
-      tables = c.in_ok-tables.ensures ∙ ap tables_of c.in_ok-numbered.ensures.program;
-    })
+pub unit_of-requires : goal.unit_of-requires
+unit_of-requires c =
+    let p = c.args.program in
+    let named = c.in_ok-program in
+    let found = named.field-0 in
+    Resolves-resolved p (record { program = found.program; tables = found.tables }) named.ensures.formed (resolves p found.program found.tables named.ensures.program named.ensures.tables (sym named.ensures.refusal ∙ c.in-None.is))
 
-pub returns-in-Some : goal.returns-in-Some
-returns-in-Some c =
-    sym (answered c.args.program c.in_ok-numbered.numbered c.in_ok-tables.tables c.as_slice.result.now c.in_ok-numbered.numbers c.in_ok-refusal.refusal c.in_ok-numbered.ensures.program c.in_ok-tables.ensures c.as_slice.ensures
-    c.in_ok-numbered.ensures.places c.in_ok-numbered.ensures.count c.in_ok-refusal.ensures) ∙ c.in-Some.is
-
-pub returns-in_ok-classes-in-None : goal.returns-in_ok-classes-in-None
-returns-in_ok-classes-in-None c = record {
-  accepted = sym (answered c.args.program c.in_ok-numbered.numbered c.in_ok-tables.tables c.as_slice.result.now c.in_ok-numbered.numbers c.in_ok-refusal.refusal c.in_ok-numbered.ensures.program c.in_ok-tables.ensures c.as_slice.ensures
-      c.in_ok-numbered.ensures.places c.in_ok-numbered.ensures.count c.in_ok-refusal.ensures) ∙ c.in-None.is;
-  program = ap (λ (u : Tables). u.program) c.new.ensures ∙ c.in_ok-numbered.ensures.program;
-  tables = ap (λ (u : Tables). u.tables) c.new.ensures ∙ c.in_ok-tables.ensures ∙ ap tables_of c.in_ok-numbered.ensures.program;
-}
+pub returns-in_ok-unit_of-in-None : goal.returns-in_ok-unit_of-in-None
+returns-in_ok-unit_of-in-None c =
+    let p = c.args.program in
+    let named = c.in_ok-program in
+    let found = named.field-0 in
+    subst (Resolves p) (sym c.in_ok-unit_of-in-None.ensures) (resolves p found.program found.tables named.ensures.program named.ensures.tables (sym named.ensures.refusal ∙ c.in-None.is))

@@ -4,7 +4,7 @@ use Rattle.perm_tree.specs.Lows.{low_in}
 use Rattle.perm_tree.specs.Places.{ExprBelow, IsPlaced, Listing}
 use Rattle.perm_tree.proofs.Lows.{length-lows_of, lows_of-push}
 use Rattle.perm_tree.proofs.Pushes.{more_exprs}
-use Rattle.perm_tree.proofs.program.Program.push_expr.Goals as goal
+use Rattle.perm_tree.proofs.program.ProgramBuilder.push_expr.Goals as goal
 
 pub low_among-low-requires-clause-count : goal.low_among-low-requires-clause-count
 low_among-low-requires-clause-count c = omega (arith, c.in_ok-at.ensures, length-lows_of c.self.inside.exprs, ap length c.self.invariant.1, ap length c.as_slice.ensures, ap length c.as_slice-2.ensures.value)

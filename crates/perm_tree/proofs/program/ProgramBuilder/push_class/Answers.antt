@@ -2,7 +2,7 @@ use Rattle.std.proofs.Common.{List, sym, subst, length}
 use Rattle.perm_tree.specs.declared.ast.ClassDecl.{ClassDecl}
 use Rattle.perm_tree.specs.Places.{IsPlaced, ClassPlaced, Listing}
 use Rattle.perm_tree.proofs.Pushes.{more_classes}
-use Rattle.perm_tree.proofs.program.Program.push_class.Goals as goal
+use Rattle.perm_tree.proofs.program.ProgramBuilder.push_class.Goals as goal
 
 pub invariant_of-self-2 : goal.invariant_of-self-2
 invariant_of-self-2 c =

@@ -2,7 +2,7 @@ use Rattle.std.proofs.Common.{List, sym, subst, length}
 use Rattle.perm_tree.specs.declared.ast.Stmt.{Stmt}
 use Rattle.perm_tree.specs.Places.{IsPlaced, KindPlaced, Listing}
 use Rattle.perm_tree.proofs.Pushes.{more_stmts}
-use Rattle.perm_tree.proofs.program.Program.push_stmt.Goals as goal
+use Rattle.perm_tree.proofs.program.ProgramBuilder.push_stmt.Goals as goal
 
 pub invariant_of-self-2 : goal.invariant_of-self-2
 invariant_of-self-2 c =

@@ -1,0 +1,37 @@
+-- The program that the tokens of a text are has its names, and is in text order.
+use Rattle.std.proofs.Common.{◌≡◌, ℕ, ◌<◌, ◌≤◌, List, [], ◌++◌, length, Ok, subst}
+use Rattle.std.specs.Prelude.{All, AllPairs, map, flat_map}
+use Rattle.perm_tree.specs.Places.{Listing}
+use Rattle.perm_tree.specs.TextOrder.{mark_names, marks_of}
+use Rattle.perm_tree.specs.WellFormed.{IsOrderly}
+use Rattle.perm_tree.specs.declared.tokens.Token.{Token}
+use Rattle.perm_parse.specs.Grammar.{Classes, program_text}
+use Rattle.perm_parse.specs.Meaning.{meaning}
+use Rattle.perm_parse.specs.Parses.{Parses}
+use Rattle.perm_parse.specs.ReadingMembers.{Gives}
+use Rattle.perm_parse.proofs.Declared.{below-both, meaning-classes, meaning-fields}
+use Rattle.perm_parse.proofs.Marking.{AreInOrder, in-order}
+use Rattle.perm_parse.proofs.MarkingTrees.{meaning-marked, meaning-rising}
+use Rattle.perm_parse.proofs.Mentioning.{meaning-mentioned}
+use Rattle.perm_parse.proofs.OneAnswer.{gives-program}
+use Rattle.perm_parse.proofs.Wording.{meaning-words}
+
+-- the program that a tree means, where its tokens are in order
+meaning-orderly : (text : List ℕ) (tokens : List Token) (tree : Classes) → AreInOrder 0 tokens → program_text tree [] ≡ tokens → IsOrderly (meaning text tree)
+meaning-orderly text tokens tree order spells =
+    let p = meaning text tree in
+    let fields = map (λ f. f.name.name) (flat_map (λ c. c.fields) p.classes) in
+    let bodies = flat_map mark_names (marks_of p) in
+    record {
+      words = meaning-words text tree;
+      named = below-both (length p.names) (map (λ c. c.name.name) p.classes) (fields ++ bodies) (meaning-classes text tree) (below-both (length p.names) fields bodies (meaning-fields text tree) (meaning-marked text tree));
+      mentioned = meaning-mentioned text tree;
+      ordered = meaning-rising text tokens tree order spells;
+    }
+
+parses-orderly : (text : List ℕ) (tokens : List Token) (p : Listing) → AreInOrder 0 tokens → Parses text tokens p → IsOrderly p
+parses-orderly text tokens p order h = subst IsOrderly h.means (meaning-orderly text tokens h.tree order h.spells)
+
+-- the program that the reading of all tokens gives
+pub gives-orderly : (text : List ℕ) (tokens : List Token) (p : Listing) → All (λ t. t.span.start < t.span.end) tokens → AllPairs (λ a b. a.span.end ≤ b.span.start) tokens → Gives text tokens (Ok p) → IsOrderly p
+gives-orderly text tokens p some order gives = parses-orderly text tokens p (in-order tokens some order) (gives-program text tokens (Ok p) gives)

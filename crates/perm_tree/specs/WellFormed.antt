@@ -1,0 +1,56 @@
+-- What every program keeps.
+use Rattle.std.specs.Prelude.{◌≢◌, ℕ, All, AllPairs, Contains, List, [], ◌∷◌, ◌++◌, length, map, flat_map}
+use Rattle.perm_tree.specs.declared.ast.FieldDecl.{FieldDecl}
+use Rattle.perm_tree.specs.declared.ast.Shape.TheVariants.{Class}
+use Rattle.perm_tree.specs.declared.ast.Ty.{Ty}
+use Rattle.perm_tree.specs.declared.ast.Ty.TheVariants.{Ref}
+use Rattle.perm_tree.specs.declared.ast.Stmt.{Stmt}
+use Rattle.perm_tree.specs.declared.ast.Method.{Method}
+use Rattle.perm_tree.specs.declared.ast.ClassDecl.{ClassDecl}
+use Rattle.perm_tree.specs.Places.{AllBelow, IsPlaced, Listing}
+use Rattle.perm_tree.specs.Scopes.{declared_by}
+use Rattle.perm_tree.specs.TextOrder.{AreRising, mark_names, marks_of}
+
+-- the numbers of the names of a program's classes and fields, and of the names that stand in its methods
+abbrev pub name_numbers : Listing → List ℕ
+name_numbers p =
+    map (λ c. c.name.name) p.classes
+    ++ (map (λ f. f.name.name) (flat_map (λ c. c.fields) p.classes)
+    ++ flat_map mark_names (marks_of p))
+
+-- the class of a type, if it has one
+abbrev pub ty_classes : Ty → List ℕ
+ty_classes (Ref q (Class n)) = n ∷ []
+ty_classes _ = []
+
+-- so of some declarations
+abbrev pub decl_classes : List FieldDecl → List ℕ
+decl_classes ds = flat_map (λ d. ty_classes d.ty) ds
+
+-- of a method but for its body
+abbrev pub method_classes : Method → List ℕ
+method_classes d = ty_classes d.result ++ decl_classes d.params
+
+-- of the members of a class
+abbrev pub member_classes : ClassDecl → List ℕ
+member_classes c = decl_classes c.fields ++ flat_map method_classes c.methods
+
+-- of a statement that declares a variable
+abbrev pub stmt_classes : Stmt → List ℕ
+stmt_classes s = decl_classes (declared_by s.kind)
+
+-- the classes of all types of a program
+abbrev pub type_classes : Listing → List ℕ
+type_classes p = flat_map member_classes p.classes ++ flat_map stmt_classes p.stmts
+
+-- its names are distinct words, each name in it is one of them, the classes of its types are mentioned, and its methods are in text order
+pub record IsOrderly (p : Listing) : Type 0 where
+  pub words : AllPairs (λ v w. v ≢ w) p.names
+  pub named : AllBelow (length p.names) (name_numbers p)
+  pub mentioned : All (Contains (map (λ i. i.name) p.mentions)) (type_classes p)
+  pub ordered : AreRising (marks_of p)
+
+-- besides, its places are in range
+pub record IsWellFormed (p : Listing) : Type 0 where
+  pub placed : IsPlaced p
+  pub orderly : IsOrderly p
