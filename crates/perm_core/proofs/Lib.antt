@@ -1,8 +1,14 @@
-pub mod Schedules
+pub mod Hiding
+pub mod HidingCodes
+pub mod HidingStatements
 mod Interleavings
 pub mod PictureTest
-pub mod RegionPrograms
 mod Pictures
-mod WordRuns
+pub mod RegionPrograms
+pub mod Schedules
 mod Shortages
 mod ShownRuns
+pub mod WholeCode
+pub mod WholeTypes
+pub mod WholeUnits
+mod WordRuns

@@ -15,6 +15,7 @@ use Rattle.perm_tree.specs.declared.ast.Stmt.{Stmt}
 use Rattle.perm_tree.specs.declared.tokens.Token.{Token}
 use Rattle.perm_parse.specs.Grammar.{TypeTree, ArgTree, TargetTree, RhsTree, BlockTree, StmtTree, Stmts, ParamList, Params, MemberTree, Members, Classes, target_text, rhs_text, block_text, stmt_text, stmts_text, type_text, param_list_text, params_text, member_text, members_text, program_text}
 use Rattle.perm_parse.specs.Meaning.{ident, var, span_over, type_of, expr_of, arg_of, target_of, head_last, block_last, rhs_of, block_of, stmt_of, stmts_of, push_stmt, param_list_of, params_of, method_of, member_of, members_of, classes_of, nothing_yet, meaning}
+use Rattle.perm_parse.proofs.Declared.{below-both}
 use Rattle.perm_parse.proofs.Growing.{front-refl, front-length, Grows, then, push_stmt-grows, ident-grows, type-grows, expr-grows, arg-grows, rhs-grows, block-grows, stmt-grows, stmts-grows, params-grows, member-grows, members-grows, classes-grows}
 use Rattle.perm_parse.proofs.Keeping.{ident-keeps, members-keeps}
 use Rattle.perm_parse.proofs.Marking.{AreInOrder, Told, rising-from, order-from, nothing, skip, ended, Under, before, entry-pushed, ident-told, var-told, type-told, expr-told, arg-told, call-told}
@@ -172,10 +173,6 @@ rising-append : (mss kss : List (List Mark)) → AreRising mss → AreRising kss
 rising-append [] kss h k = k
 rising-append (ms ∷ mss) kss h k = (h.0, rising-append mss kss h.1 k)
 
-below-append : (n : ℕ) (xs ys : List ℕ) → AllBelow n xs → AllBelow n ys → AllBelow n (xs ++ ys)
-below-append n [] ys h k = k
-below-append n (x ∷ xs) ys h k = (h.0, below-append n xs ys h.1 k)
-
 no_methods : {n : ℕ} {us : List Token} → AreTold n us us []
 no_methods {us} = record { rising = λ from h. tt; behind = λ from h. order-from 0 from us (omega arith) h; numbered = tt }
 
@@ -184,7 +181,7 @@ join : {n : ℕ} {vs us ws : List Token} {mss kss : List (List Mark)} → AreTol
 join {n} {mss} {kss} q r = record {
   rising = λ from h. rising-append mss kss (q.rising from h) (r.rising 0 (q.behind from h));
   behind = λ from h. r.behind 0 (q.behind from h);
-  numbered = subst (AllBelow n) (sym (flat_map-append mark_names mss kss)) (below-append n (flat_map mark_names mss) (flat_map mark_names kss) q.numbered r.numbered);
+  numbered = subst (AllBelow n) (sym (flat_map-append mark_names mss kss)) (below-both n (flat_map mark_names mss) (flat_map mark_names kss) q.numbered r.numbered);
 }
 
 -- the marks of one method

@@ -90,7 +90,7 @@ fn unit_of(alloc: Global, program: Program, tables: List<MethodTable>) -> Result
     Ok(Unit::new(program, classes, tables))
 }
 
-/// The program with the numbers of classes for their names, but where a name stands in the text.
+/// The program in which types and mentions have the numbers of classes for their names.
 fn number_classes(
     alloc: Global,
     program: Program,
