@@ -240,9 +240,13 @@ fn any_tokens_have_an_answer(rt: HostRuntime) -> Result<(), Fail> {
 
 #[test]
 fn a_program_is_written_in_its_canonical_text(rt: HostRuntime) -> Result<(), Fail> {
-    let cases: [(&[u8], &[u8]); 3] = [
+    let cases: [(&[u8], &[u8]); 4] = [
         (POINT, POINT),
         (b"class  A{}", b"class A {\n}\n"),
+        (
+            b"class A{long F()readable{return(-(1-2))*((1-2));}}",
+            b"class A {\n  long F() readable {\n    return -(1 - 2) * (1 - 2);\n  }\n}\n",
+        ),
         (
             b"class A{long F(long n)readable{return((1-(2-n))*(3*4))-(-n);}long g;}",
             b"class A {\n  long F(long n) readable {\n    return (1 - (2 - n)) * (3 * 4) - -n;\n  }\n  long g;\n}\n",
