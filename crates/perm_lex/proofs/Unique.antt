@@ -9,7 +9,7 @@ use Rattle.perm_tree.specs.declared.tokens.TokenKind.{TokenKind}
 use Rattle.perm_tree.specs.declared.tokens.TokenKind.TheVariants.{Number}
 use Rattle.perm_lex.specs.declared.table.TheConstants.{SIGNS}
 use Rattle.perm_lex.specs.Tokens.{spelling, is_letter, is_word_byte, IsWord, IsToken, IsLongest}
-use Rattle.perm_lex.specs.Lexes.{Piece, piece_text, pieces_text, is_blank, Begins, EndsLine, IsPiece, ArePieces}
+use Rattle.perm_lex.specs.Lexes.{Piece, piece_text, pieces_text, is_blank, EndsLine, IsPiece, ArePieces}
 use Rattle.perm_lex.specs.Lexes.Piece.{blank, line_comment, block_comment, token}
 use Rattle.perm_lex.proofs.Spellings.{Among, spelled, same_kind}
 use Rattle.perm_lex.proofs.Lexemes.{token_cases, letter_no_digit, word_begins, among_all}
@@ -110,9 +110,6 @@ one_token j k xs ys a b e s longest t longest' = ⊎_elim
     (cases_lt (length xs) (length ys))
 
 -- no two pieces of different sorts begin one text
-abbrev pub NoComment : List ℕ → Type 0
-NoComment text = (Begins (codes "//") text → ⊥) × (Begins (codes "/*") text → ⊥)
-
 pub blank_apart : (b x : ℕ) (xs ys : List ℕ) → is_blank b ≡ true → is_blank x ≡ false → b ∷ xs ≡ x ∷ ys → ⊥
 blank_apart b x xs ys h f e = both_ways (is_blank b) (ap is_blank (cons_head b x xs ys e) ∙ f) h
 

@@ -8,15 +8,14 @@ use Rattle.std.proofs.lemmas.Bool.Decides.{Decides-eqb}
 use Rattle.std.proofs.lemmas.Slice.Eq.{starts_is}
 use Rattle.std.proofs.lemmas.List.{append-nil, length-append, drop-drop, drop_at, drop_all}
 use Rattle.perm_tree.specs.declared.ast.Span.{Span}
-use Rattle.perm_tree.specs.declared.errors.LexError.{LexError}
-use Rattle.perm_tree.specs.declared.errors.LexError.TheVariants.{BadByte, NumberTooLarge, UnclosedComment, NoMemory}
+use Rattle.perm_tree.specs.declared.errors.LexError.TheVariants.{BadByte}
 use Rattle.perm_tree.specs.declared.tokens.Token.{Token}
 use Rattle.perm_tree.specs.declared.tokens.TokenKind.{TokenKind}
 use Rattle.perm_lex.specs.declared.lexeme.Lexeme.{Lexeme}
 use Rattle.perm_lex.specs.Tokens.{is_letter, IsToken, largest}
-use Rattle.perm_lex.specs.Lexes.{Piece, piece_text, pieces_text, is_blank, IsPiece, ArePieces, tokens_of, tokens_from, BeginsWith, Lexes, IsRefused, Refuses}
+use Rattle.perm_lex.specs.Lexes.{Piece, piece_text, pieces_text, is_blank, IsPiece, ArePieces, tokens_of, tokens_from, BeginsWith, Lexes, IsRefused}
 use Rattle.perm_lex.specs.Lexes.Piece.{blank, line_comment, block_comment, token}
-use Rattle.perm_lex.specs.Reading.{ReadsPiece, IsLexeme, BeginsNoGap, NoSign, IsCause}
+use Rattle.perm_lex.specs.Reading.{ReadsPiece, IsLexeme, BeginsNoGap, NoSign}
 use Rattle.perm_lex.proofs.Runs.{head_of}
 use Rattle.perm_lex.proofs.Lexemes.{token_cases, word_begins}
 use Rattle.perm_lex.proofs.Unique.{token_some, digits_begin, piece_some}
@@ -120,15 +119,6 @@ read_more text at len tokens new so_far step =
 
 pub read_all : (text : List ℕ) (at : ℕ) (tokens : List Token) → length text ≤ at → IsReadTo text at tokens → Lexes text tokens
 read_all text at tokens end so_far = (so_far.pieces, subst (BeginsWith so_far.pieces text) (drop_all at text end) so_far.begins, so_far.told)
-
-pub read_refused : (text : List ℕ) (at : ℕ) (tokens : List Token) (e : LexError) → IsReadTo text at tokens → IsRefused at (drop at text) e → IsCause text e
-read_refused text at tokens e so_far r = go e (so_far.pieces, drop at text, so_far.begins, subst (λ n. IsRefused n (drop at text) e) so_far.place r)
-  where
-    go : (e : LexError) → Refuses text e → IsCause text e
-    go NoMemory r = tt
-    go (BadByte p) r = r
-    go (NumberTooLarge s) r = r
-    go (UnclosedComment p) r = r
 
 -- a step goes on, and not past the end
 pub step_on : (at len : ℕ) (rest : List ℕ) (new : List Token) → ReadsPiece at rest len new → (0 < len) × (len ≤ length rest)

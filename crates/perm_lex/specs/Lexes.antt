@@ -22,6 +22,7 @@ piece_text (line_comment inside) = codes "//" ++ inside
 piece_text (block_comment inside) = codes "/*" ++ (inside ++ codes "*/")
 piece_text (token kind bytes) = bytes
 
+-- the bytes of pieces
 abbrev pub pieces_text : List Piece → List ℕ
 pieces_text [] = []
 pieces_text (p ∷ ps) = piece_text p ++ pieces_text ps
@@ -53,6 +54,7 @@ abbrev pub ArePieces : List Piece → List ℕ → Type 0
 ArePieces [] after = Unit {0}
 ArePieces (p ∷ ps) after = IsPiece p (pieces_text ps ++ after) × ArePieces ps after
 
+-- the span of bytes that begin at a place
 abbrev pub span_at : ℕ → List ℕ → Span
 span_at at bytes = record { start = at; end = at + length bytes }
 

@@ -18,6 +18,7 @@ pub record ReadsPiece (at : ℕ) (text : List ℕ) (len : ℕ) (tokens : List To
   pub long : len ≡ length (piece_text piece)
   pub told : tokens ≡ tokens_of at piece
 
+-- a byte that ends no line
 abbrev pub is_in_line : ℕ → Boolean
 is_in_line b = not (b == 10)
 

@@ -10,6 +10,7 @@ use Rattle.perm_tree.specs.declared.tokens.TokenKind.TheVariants.{Name, Number, 
 abbrev pub is_letter : ℕ → Boolean
 is_letter b = is_ascii_alphabetic b || b == 95
 
+-- a letter, `_` or a digit
 abbrev pub is_word_byte : ℕ → Boolean
 is_word_byte b = is_letter b || is_ascii_digit b
 

@@ -9,7 +9,7 @@ use Rattle.perm_parse.specs.Grammar.{TypeTree, RecvTree, TargetTree, ParamList, 
 use Rattle.perm_parse.specs.Grammar.{IsExpr, IsArg, IsArgList, AreArgs, IsCall, IsRhs, IsBlock, IsStmt, AreStmts, IsMember, AreMembers, IsProgram}
 use Rattle.perm_parse.specs.Levels.{type_levels, recv_levels, target_levels, param_list_levels, params_levels}
 use Rattle.perm_parse.specs.Levels.{expr_levels, arg_levels, arg_list_levels, args_levels, call_levels, rhs_levels, block_levels, stmt_levels, stmts_levels, member_levels, members_levels, program_levels}
-use Rattle.perm_parse.specs.Meaning.{ident, var, target_of, expr_of, arg_of, arg_list_of, args_of, call_of, rhs_of, block_of, stmt_of, stmts_of, method_of, member_of, members_of, classes_of, head_last}
+use Rattle.perm_parse.specs.Meaning.{ident, var, target_of, expr_of, arg_of, arg_list_of, args_of, call_of, rhs_of, stmt_of, stmts_of, method_of, member_of, members_of, classes_of, head_last}
 use Rattle.perm_parse.specs.Parses.{Shallow}
 use Rattle.perm_parse.proofs.CanonicalTrees.{bare, bare-is, bare-of, bare-low}
 
@@ -167,9 +167,6 @@ mutual
   bare_rhs-of text (RhsTree.new_array word long opening e closing) s = rw (bare-of text e s) refl
   bare_rhs-of text (RhsTree.called c) s = rw (bare_call-of text c s) refl
   bare_rhs-of text (RhsTree.recover word opening b give name end closing) s = rw (bare_stmts-of text b s) refl
-
-  bare_block-of : (text : List ℕ) (a : BlockTree) (s : Listing) → block_of text (bare_block a) s ≡ block_of text a s
-  bare_block-of text (BlockTree.block opening b closing) s = rw (bare_stmts-of text b s) refl
 
   bare_stmt-of : (text : List ℕ) (x : StmtTree) (s : Listing) → stmt_of text (bare_stmt x) s ≡ stmt_of text x s
   bare_stmt-of text (StmtTree.declare ty name end) s = refl

@@ -182,9 +182,6 @@ ends-named (TypeFor.to_local (Open.at u b)) ty name = ends-outer u (Stmts.more_s
 ends-open : (o : Open) → Ends (State.listing o) (end_open o)
 ends-open (Open.at u b) = ends-outer u b
 
-ends-operand : (k : Purpose) → Ends (State.operand [] k) (some_token kind.Number ∷ end_purpose k)
-ends-operand k = ends-purpose k (ExprTree.number (some_token kind.Number)) []
-
 pub ends : (q : State) → Ends q (end_state q)
 ends (State.expects so_far d (Wanted.exactly k) next) = let r = ends (next (some_token k)) in (r.0, rw (true_same the_type k k refl) r.1)
 ends (State.expects so_far d Wanted.a_variable next) = let r = ends (next (some_token kind.Name)) in (r.0, r.1)

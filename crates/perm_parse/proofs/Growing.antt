@@ -9,9 +9,9 @@ use Rattle.perm_tree.specs.declared.ast.Stmt.{Stmt}
 use Rattle.perm_tree.specs.declared.ast.FieldDecl.{FieldDecl}
 use Rattle.perm_tree.specs.declared.ast.Method.{Method}
 use Rattle.perm_tree.specs.declared.tokens.Token.{Token}
-use Rattle.perm_parse.specs.Grammar.{TypeTree, ExprTree, ArgTree, ArgList, Args, RecvTree, CallTree, TargetTree, RhsTree, BlockTree, StmtTree, Stmts, ParamList, Params, MemberTree, Members, Classes}
-use Rattle.perm_parse.specs.Meaning.{numbered, ident, var, push_expr, push_stmt, push_mention, type_of, expr_of, arg_of, arg_list_of, args_of, recv_of, call_of, target_of, rhs_of, block_of, stmt_of, stmts_of, param_list_of, params_of, member_of, members_of, classes_of}
-use Rattle.perm_parse.proofs.Walked.{IsKept, ident-kept, var-kept, type-kept, expr-kept, arg-kept, arg_list-kept, args-kept, recv-kept, call-kept, target-kept, rhs-kept, block-kept, stmt-kept, stmts-kept, param_list-kept, params-kept, member-kept, members-kept, classes-kept}
+use Rattle.perm_parse.specs.Grammar.{TypeTree, ExprTree, ArgTree, Args, RhsTree, BlockTree, StmtTree, Stmts, Params, MemberTree, Members, Classes}
+use Rattle.perm_parse.specs.Meaning.{numbered, ident, push_expr, push_stmt, push_mention, type_of, expr_of, arg_of, args_of, rhs_of, block_of, stmt_of, stmts_of, params_of, member_of, members_of, classes_of}
+use Rattle.perm_parse.proofs.Walked.{IsKept, ident-kept, type-kept, expr-kept, arg-kept, args-kept, rhs-kept, block-kept, stmt-kept, stmts-kept, params-kept, member-kept, members-kept, classes-kept}
 
 -- a list begins with another one
 pub record Front {A : Type 0} (xs ys : List A) : Type 0 where
@@ -67,9 +67,6 @@ grows = record { stays = stays; then = then; name = λ text t s. numbered-grows 
 pub ident-grows : (text : List ℕ) (t : Token) (s : Listing) → Grows s (ident text t s).1
 ident-grows = ident-kept Grows grows
 
-pub var-grows : (text : List ℕ) (t : Token) (s : Listing) → Grows s (var text t s).1
-var-grows = var-kept Grows grows
-
 pub type-grows : (text : List ℕ) (a : TypeTree) (s : Listing) → Grows s (type_of text a s).1
 type-grows = type-kept Grows grows
 
@@ -79,20 +76,8 @@ expr-grows = expr-kept Grows grows
 pub arg-grows : (text : List ℕ) (a : ArgTree) (s : Listing) → Grows s (arg_of text a s).1
 arg-grows = arg-kept Grows grows
 
-pub arg_list-grows : (text : List ℕ) (a : ArgList) (s : Listing) → Grows s (arg_list_of text a s).1
-arg_list-grows = arg_list-kept Grows grows
-
 pub args-grows : (text : List ℕ) (a : Args) (s : Listing) → Grows s (args_of text a s).1
 args-grows = args-kept Grows grows
-
-pub recv-grows : (text : List ℕ) (a : RecvTree) (s : Listing) → Grows s (recv_of text a s).2
-recv-grows = recv-kept Grows grows
-
-pub call-grows : (text : List ℕ) (a : CallTree) (s : Listing) → Grows s (call_of text a s).1
-call-grows = call-kept Grows grows
-
-pub target-grows : (text : List ℕ) (a : TargetTree) (s : Listing) → Grows s (target_of text a s).2
-target-grows = target-kept Grows grows
 
 pub rhs-grows : (text : List ℕ) (a : RhsTree) (s : Listing) → Grows s (rhs_of text a s).1
 rhs-grows = rhs-kept Grows grows
@@ -105,9 +90,6 @@ stmt-grows = stmt-kept Grows grows
 
 pub stmts-grows : (text : List ℕ) (a : Stmts) (s : Listing) → Grows s (stmts_of text a s).1
 stmts-grows = stmts-kept Grows grows
-
-pub param_list-grows : (text : List ℕ) (a : ParamList) (s : Listing) → Grows s (param_list_of text a s).1
-param_list-grows = param_list-kept Grows grows
 
 pub params-grows : (text : List ℕ) (a : Params) (s : Listing) → Grows s (params_of text a s).1
 params-grows = params-kept Grows grows

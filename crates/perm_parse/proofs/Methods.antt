@@ -19,7 +19,7 @@ use Rattle.perm_parse.specs.States.{State, ArgFor, ClassPart, MethodPart, Outer,
 use Rattle.perm_parse.specs.Machine.{step_perm, finish_arg, opens_body, end_method}
 use Rattle.perm_parse.specs.Meaning.{span_over}
 use Rattle.perm_parse.specs.Reading.{IsNext, Expected, Opened, Leads, Refuses, ReadsArg, IsEnded, ReadsStmts}
-use Rattle.perm_parse.specs.ReadingMembers.{ReadsParams, ExpectedPerm, SignatureRead, ReadsSignature, ReturnedRead, ReadsReturned, MethodRead, ReadsMethod}
+use Rattle.perm_parse.specs.ReadingMembers.{ReadsParams, ExpectedPerm, SignatureRead, ReadsSignature, ReturnedRead, ReadsReturned, MethodRead}
 use Rattle.perm_parse.proofs.Leading.{via, refused, stepped, dead, at-end, takes, misses, only-expects}
 use Rattle.perm_parse.proofs.Listing.{body-closes}
 use Rattle.perm_parse.proofs.Operands.{not-opened}
@@ -136,14 +136,6 @@ returned-ok old p1 p2 p3 new word end finish a s h g h3 h4 is = record {
 }
 
 -- ---- a whole method
-
-pub method-stmts : (old p1 new : Parser) (head : FieldDecl) (s : Signature) (e : ParseError) → ReadsSignature old p1 (Ok s) → ReadsStmts 2 p1 new (Err e) → ReadsMethod old new head (Err e)
-method-stmts old p1 new head s e g r = λ c ty name. refused (g.leads c ty name) (r (Outer.body (BodyPart.body_part (MethodPart.method_part c ty name g.opening) g.tree g.closing s.receiver g.word g.start)) refl)
-
-pub method-returned : (old p1 p2 new : Parser) (head : FieldDecl) (s : Signature) (list : List ℕ) (e : ParseError) → ReadsSignature old p1 (Ok s) → ReadsStmts 2 p1 p2 (Ok list) → ReadsReturned p2 new (Err e) → ReadsMethod old new head (Err e)
-method-returned old p1 p2 new head s list e g b r = λ c ty name.
-    let d = BodyPart.body_part (MethodPart.method_part c ty name g.opening) g.tree g.closing s.receiver g.word g.start in
-    refused (via (g.leads c ty name) (b.leads (Outer.body d) refl)) (r d b.tree)
 
 pub method-ok : (old p1 p2 new : Parser) (head : FieldDecl) (s : Signature) (list : List ℕ) (r : Returned) → p1.text ≡ old.text → p2.text ≡ p1.text → ReadsSignature old p1 (Ok s) → ReadsStmts 2 p1 p2 (Ok list) → ReadsReturned p2 new (Ok r) →
     MethodRead old new head (record { result = head.ty; name = head.name; params = s.params; receiver = s.receiver; body = record { stmts = list }; back = r.back; span = r.span })

@@ -18,7 +18,7 @@ use Rattle.perm_parse.specs.Grammar.{TypeTree, perm_word}
 use Rattle.perm_parse.specs.States.{State, TypeFor, Wanted, type_for_text, level_type_for, level_state}
 use Rattle.perm_parse.specs.Machine.{step_as, step_type, step_perm_seen, typed}
 use Rattle.perm_parse.specs.Meaning.{ident, type_of, type_first}
-use Rattle.perm_parse.specs.Reading.{Next, IsNext, IsNotNext, Expected, Opened, Named, Mentioned, Leads, Refuses, ShapeRead, ReadsShape, TypeRead, ReadsType}
+use Rattle.perm_parse.specs.Reading.{Next, IsNotNext, Expected, Opened, Named, Mentioned, Leads, Refuses, ShapeRead, ReadsShape, TypeRead, ReadsType}
 use Rattle.perm_parse.proofs.Leading.{via, refused, here, dead, at-end, takes, misses, only-expects, too-deep}
 
 -- a word that is a whole type
@@ -31,10 +31,6 @@ word-ok old new depth wanted t tree ty le h at goes m = record {
   program = h.2.program ∙ sym (ap (λ (x : Ty × Listing). x.1) (m old.text.now old.program));
   leads = λ k lv. takes old new wanted t (State.type_due k) (typed k tree) h (goes k) (omega arith);
 }
-
--- a word that comes next isn't missed
-pub next-missed : (old new : Parser) (wanted : TokenKind) (e : ParseError) → IsNext wanted old → Expected wanted old new (Err e) → ⊥
-next-missed old new wanted e next h = h.1 next.0 next.1.0 next.1.1
 
 perm-seen : (k : TypeFor) (p : Perm) (t : Token) → step_type k t (perm_word p) ≡ Some (State.perm_seen k p t)
 perm-seen k perm.Isolated t = refl

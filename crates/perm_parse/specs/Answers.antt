@@ -7,6 +7,7 @@ use Rattle.perm_parse.specs.Machine.{step}
 use Rattle.perm_parse.specs.Parses.{Parses, IsFirstDead, IsTooDeepAt, deepest}
 use Rattle.perm_parse.specs.Meaning.{meaning}
 
+-- what the machine answers of tokens: a tree, the first dead one, or the first that is too deep
 pub data Answer : Type 0 where
   parsed : Classes → Answer
   unexpected : ℕ → Answer
@@ -22,13 +23,16 @@ abbrev pub went : ℕ → Option State → (State → Answer) → Answer
 went place None goes_on = unexpected place
 went place (Some q) goes_on = if nat_le (level_state q) deepest then goes_on q else too_deep place
 
+-- what tokens give from a state
 abbrev pub read_from : List Token → State → ℕ → Answer
 read_from [] q place = ended q place
 read_from (t ∷ ts) q place = went place (step q t) (λ r. read_from ts r (place + 1))
 
+-- the state before the first token
 abbrev pub start : State
 start = State.between_classes Classes.no_classes
 
+-- what a list of tokens gives
 abbrev pub read : List Token → Answer
 read tokens = read_from tokens start 0
 

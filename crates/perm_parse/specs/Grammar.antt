@@ -42,6 +42,7 @@ type_text (bool_type t) rest = t ∷ rest
 type_text (object_type p perm name) rest = perm ∷ name ∷ rest
 type_text (array_type p perm word opening closing) rest = perm ∷ word ∷ opening ∷ closing ∷ rest
 
+-- a type is as the grammar has it
 abbrev pub IsType : TypeTree → Type 0
 IsType (long_type t) = Is kind.Long t
 IsType (bool_type t) = Is kind.Bool t
@@ -61,10 +62,12 @@ pub data ExprTree : Type 0 where
   unary : UnaryOp → Token → ExprTree → ExprTree
   binary : BinaryOp → ExprTree → Token → ExprTree → ExprTree
 
+-- the token of a unary operator
 abbrev pub unary_sign : UnaryOp → TokenKind
 unary_sign unary_op.Minus = kind.Minus
 unary_sign unary_op.Not = kind.Bang
 
+-- the token of a binary operator
 abbrev pub sign : BinaryOp → TokenKind
 sign op.Mul = kind.Star
 sign op.Div = kind.Slash
@@ -85,6 +88,7 @@ abbrev pub looseness : ExprTree → ℕ
 looseness (binary o a t b) = level o
 looseness _ = 0
 
+-- the tokens of an expression, and behind them the others
 abbrev pub expr_text : ExprTree → List Token → List Token
 expr_text (number t) rest = t ∷ rest
 expr_text (true_word t) rest = t ∷ rest
@@ -113,10 +117,12 @@ pub data ArgTree : Type 0 where
   plain : ExprTree → ArgTree
   consumed : Token → Token → ArgTree
 
+-- the tokens of an argument, and behind them the others
 abbrev pub arg_text : ArgTree → List Token → List Token
 arg_text (plain e) rest = expr_text e rest
 arg_text (consumed word name) rest = word ∷ name ∷ rest
 
+-- an argument is as the grammar has it
 abbrev pub IsArg : ArgTree → Type 0
 IsArg (plain e) = IsExpr e
 IsArg (consumed word name) = Is kind.Consume word × IsVar name
@@ -126,10 +132,12 @@ pub data ArgList : Type 0 where
   one_arg : ArgTree → ArgList
   more_args : ArgList → Token → ArgTree → ArgList
 
+-- the tokens of arguments with commas between them, and behind them the others
 abbrev pub arg_list_text : ArgList → List Token → List Token
 arg_list_text (one_arg a) rest = arg_text a rest
 arg_list_text (more_args list comma a) rest = arg_list_text list (comma ∷ arg_text a rest)
 
+-- arguments with commas between them are as the grammar has it
 abbrev pub IsArgList : ArgList → Type 0
 IsArgList (one_arg a) = IsArg a
 IsArgList (more_args list comma a) = IsArgList list × Is kind.Comma comma × IsArg a
@@ -139,10 +147,12 @@ pub data Args : Type 0 where
   no_args : Args
   args : ArgList → Args
 
+-- the tokens of the arguments of a call, and behind them the others
 abbrev pub args_text : Args → List Token → List Token
 args_text no_args rest = rest
 args_text (args list) rest = arg_list_text list rest
 
+-- the arguments of a call are as the grammar has it
 abbrev pub AreArgs : Args → Type 0
 AreArgs no_args = Unit {0}
 AreArgs (args list) = IsArgList list
@@ -152,10 +162,12 @@ pub data RecvTree : Type 0 where
   lent : Token → RecvTree
   given : Token → Token → Token → Token → RecvTree
 
+-- the tokens of a receiver, and behind them the others
 abbrev pub recv_text : RecvTree → List Token → List Token
 recv_text (lent name) rest = name ∷ rest
 recv_text (given opening word name closing) rest = opening ∷ word ∷ name ∷ closing ∷ rest
 
+-- a receiver is as the grammar has it
 abbrev pub IsRecv : RecvTree → Type 0
 IsRecv (lent name) = IsVar name
 IsRecv (given opening word name closing) = Is kind.OpenParen opening × Is kind.Consume word × IsVar name × Is kind.CloseParen closing
@@ -164,9 +176,11 @@ IsRecv (given opening word name closing) = Is kind.OpenParen opening × Is kind.
 pub data CallTree : Type 0 where
   call : RecvTree → Token → Token → Token → Args → Token → CallTree
 
+-- the tokens of a call, and behind them the others
 abbrev pub call_text : CallTree → List Token → List Token
 call_text (call recv dot name opening list closing) rest = recv_text recv (dot ∷ name ∷ opening ∷ args_text list (closing ∷ rest))
 
+-- a call is as the grammar has it
 abbrev pub IsCall : CallTree → Type 0
 IsCall (call recv dot name opening list closing) = IsRecv recv × Is kind.Dot dot × Is kind.Name name × Is kind.OpenParen opening × AreArgs list × Is kind.CloseParen closing
 
@@ -177,10 +191,12 @@ pub data TargetTree : Type 0 where
   known : Token → TargetTree
   declared : TypeTree → Token → TargetTree
 
+-- the tokens of the left side of an assignment, and behind them the others
 abbrev pub target_text : TargetTree → List Token → List Token
 target_text (known name) rest = name ∷ rest
 target_text (declared ty name) rest = type_text ty (name ∷ rest)
 
+-- the left side of an assignment is as the grammar has it
 abbrev pub IsTarget : TargetTree → Type 0
 IsTarget (known name) = Is kind.Name name
 IsTarget (declared ty name) = IsType ty × Is kind.Name name
@@ -222,6 +238,7 @@ mutual
     more_stmts : Stmts → StmtTree → Stmts
 
 abbrev mutual
+  -- the tokens of a right side, and behind them the others
   pub rhs_text : RhsTree → List Token → List Token
   rhs_text (value a) rest = arg_text a rest
   rhs_text (field name dot member) rest = name ∷ dot ∷ member ∷ rest
@@ -232,9 +249,11 @@ abbrev mutual
   rhs_text (called c) rest = call_text c rest
   rhs_text (recover word opening b give name end closing) rest = word ∷ opening ∷ stmts_text b (give ∷ name ∷ end ∷ closing ∷ rest)
 
+  -- the tokens of a block, and behind them the others
   pub block_text : BlockTree → List Token → List Token
   block_text (block opening b closing) rest = opening ∷ stmts_text b (closing ∷ rest)
 
+  -- the tokens of a statement, and behind them the others
   pub stmt_text : StmtTree → List Token → List Token
   stmt_text (declare ty name end) rest = type_text ty (name ∷ end ∷ rest)
   stmt_text (assign target equals r end) rest = target_text target (equals ∷ rhs_text r (end ∷ rest))
@@ -247,11 +266,13 @@ abbrev mutual
   stmt_text (repeat word opening e closing a) rest = word ∷ opening ∷ expr_text e (closing ∷ block_text a rest)
   stmt_text (par word a b) rest = word ∷ block_text a (block_text b rest)
 
+  -- the tokens of the statements of a block, and behind them the others
   pub stmts_text : Stmts → List Token → List Token
   stmts_text no_stmts rest = rest
   stmts_text (more_stmts b x) rest = stmts_text b (stmt_text x rest)
 
 abbrev mutual
+  -- a right side is as the grammar has it
   pub IsRhs : RhsTree → Type 0
   IsRhs (value a) = IsArg a
   IsRhs (field name dot member) = IsVar name × Is kind.Dot dot × Is kind.Name member
@@ -263,9 +284,11 @@ abbrev mutual
   IsRhs (recover word opening b give name end closing) =
       Is kind.Recover word × Is kind.OpenBrace opening × AreStmts b × Is kind.Give give × Is kind.Name name × Is kind.Semicolon end × Is kind.CloseBrace closing
 
+  -- a block is as the grammar has it
   pub IsBlock : BlockTree → Type 0
   IsBlock (block opening b closing) = Is kind.OpenBrace opening × AreStmts b × Is kind.CloseBrace closing
 
+  -- a statement is as the grammar has it
   pub IsStmt : StmtTree → Type 0
   IsStmt (declare ty name end) = IsType ty × Is kind.Name name × Is kind.Semicolon end
   IsStmt (assign target equals r end) = IsTarget target × Is kind.Assign equals × IsRhs r × Is kind.Semicolon end
@@ -280,6 +303,7 @@ abbrev mutual
   IsStmt (repeat word opening e closing a) = Is kind.While word × Is kind.OpenParen opening × IsExpr e × Is kind.CloseParen closing × IsBlock a
   IsStmt (par word a b) = Is kind.Par word × IsBlock a × IsBlock b
 
+  -- the statements of a block are as the grammar has it
   pub AreStmts : Stmts → Type 0
   AreStmts no_stmts = Unit {0}
   AreStmts (more_stmts b x) = AreStmts b × IsStmt x
@@ -291,10 +315,12 @@ pub data ParamList : Type 0 where
   one_param : TypeTree → Token → ParamList
   more_params : ParamList → Token → TypeTree → Token → ParamList
 
+-- the tokens of parameters with commas between them, and behind them the others
 abbrev pub param_list_text : ParamList → List Token → List Token
 param_list_text (one_param ty name) rest = type_text ty (name ∷ rest)
 param_list_text (more_params list comma ty name) rest = param_list_text list (comma ∷ type_text ty (name ∷ rest))
 
+-- parameters with commas between them are as the grammar has it
 abbrev pub IsParamList : ParamList → Type 0
 IsParamList (one_param ty name) = IsType ty × Is kind.Name name
 IsParamList (more_params list comma ty name) = IsParamList list × Is kind.Comma comma × IsType ty × Is kind.Name name
@@ -304,10 +330,12 @@ pub data Params : Type 0 where
   no_params : Params
   params : ParamList → Params
 
+-- the tokens of the parameters of a method, and behind them the others
 abbrev pub params_text : Params → List Token → List Token
 params_text no_params rest = rest
 params_text (params list) rest = param_list_text list rest
 
+-- the parameters of a method are as the grammar has it
 abbrev pub AreParams : Params → Type 0
 AreParams no_params = Unit {0}
 AreParams (params list) = IsParamList list
@@ -317,11 +345,13 @@ pub data MemberTree : Type 0 where
   field_member : TypeTree → Token → Token → MemberTree
   method : TypeTree → Token → Token → Params → Token → Perm → Token → Token → Stmts → Token → ArgTree → Token → Token → MemberTree
 
+-- the tokens of a member, and behind them the others
 abbrev pub member_text : MemberTree → List Token → List Token
 member_text (field_member ty name end) rest = type_text ty (name ∷ end ∷ rest)
 member_text (method ty name opening list closing p perm start b word a end finish) rest =
     type_text ty (name ∷ opening ∷ params_text list (closing ∷ perm ∷ start ∷ stmts_text b (word ∷ arg_text a (end ∷ finish ∷ rest))))
 
+-- a member is as the grammar has it
 abbrev pub IsMember : MemberTree → Type 0
 IsMember (field_member ty name end) = IsType ty × Is kind.Name name × Is kind.Semicolon end
 IsMember (method ty name opening list closing p perm start b word a end finish) =
@@ -333,10 +363,12 @@ pub data Members : Type 0 where
   no_members : Members
   more_members : Members → MemberTree → Members
 
+-- the tokens of the members of a class, and behind them the others
 abbrev pub members_text : Members → List Token → List Token
 members_text no_members rest = rest
 members_text (more_members list x) rest = members_text list (member_text x rest)
 
+-- the members of a class are as the grammar has it
 abbrev pub AreMembers : Members → Type 0
 AreMembers no_members = Unit {0}
 AreMembers (more_members list x) = AreMembers list × IsMember x
@@ -346,10 +378,12 @@ pub data Classes : Type 0 where
   no_classes : Classes
   more_classes : Classes → Token → Token → Token → Members → Token → Classes
 
+-- the tokens of a program, and behind them the others
 abbrev pub program_text : Classes → List Token → List Token
 program_text no_classes rest = rest
 program_text (more_classes list word name opening members closing) rest = program_text list (word ∷ name ∷ opening ∷ members_text members (closing ∷ rest))
 
+-- a program is as the grammar has it
 abbrev pub IsProgram : Classes → Type 0
 IsProgram no_classes = Unit {0}
 IsProgram (more_classes list word name opening members closing) =

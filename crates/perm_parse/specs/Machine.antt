@@ -15,11 +15,13 @@ use Rattle.perm_parse.specs.States.{ArgFor, ArgsPart, Assigning, BodyPart, CallF
 
 -- ---- one token
 
+-- a token that is a name or `this`
 abbrev pub is_variable : TokenKind → Bool
 is_variable kind.Name = true
 is_variable kind.This = true
 is_variable _ = false
 
+-- the token is one of those that are waited for
 abbrev pub suits : Wanted → TokenKind → Bool
 suits (exactly k) other = sameb the_type k other
 suits a_variable other = is_variable other
@@ -29,6 +31,7 @@ abbrev pub taken : Bool → State → Option State
 taken true q = Some q
 taken false q = None
 
+-- the state behind a whole statement
 abbrev pub add : Open → StmtTree → State
 add (at u b) x = listing (at u (Stmts.more_stmts b x))
 
@@ -38,6 +41,7 @@ enter (at u b) lead =
     expects (λ rest. outer_text u (stmts_text b (lead_text lead rest))) (level_outer u) (exactly kind.OpenBrace)
     (λ opening. listing (at (inside u b lead opening) Stmts.no_stmts))
 
+-- the state behind a whole assignment
 abbrev pub assigned : Assigning → RhsTree → Token → State
 assigned (assigning o target equals) r end = add o (StmtTree.assign target equals r end)
 
@@ -51,6 +55,7 @@ reduce l e [] = (e, [])
 reduce l e (before o t ∷ ps) = reduce l (ExprTree.unary o t e) ps
 reduce l e (left a o t ∷ ps) = if nat_le (level o) l then reduce l (ExprTree.binary o a t e) ps else (e, left a o t ∷ ps)
 
+-- the binary operator of a token, if it is one
 abbrev pub op_of : TokenKind → Option BinaryOp
 op_of kind.Star = Some op.Mul
 op_of kind.Slash = Some op.Div
@@ -67,14 +72,17 @@ op_of kind.And = Some op.And
 op_of kind.Or = Some op.Or
 op_of _ = None
 
+-- arguments so far, and one more
 abbrev pub push_arg : ArgsPart → ArgTree → ArgList
 push_arg no_arg_yet a = ArgList.one_arg a
 push_arg (behind_arg list comma) a = ArgList.more_args list comma a
 
+-- parameters so far, and one more
 abbrev pub push_param : ParamsPart → TypeTree → Token → ParamList
 push_param no_param_yet ty name = ParamList.one_param ty name
 push_param (behind_param list comma) ty name = ParamList.more_params list comma ty name
 
+-- the state behind a whole call
 abbrev pub call_ended : CallFor → CallTree → Token → State
 call_ended (to_stand o) c end = add o (StmtTree.run_call c end)
 call_ended (to_assign a) c end = assigned a (RhsTree.called c) end
@@ -99,6 +107,7 @@ gives_receiver k opening word =
     (λ dot. expects (λ rest. call_for_text k (opening ∷ word ∷ name ∷ closing ∷ dot ∷ rest)) (level_call_for k) (exactly kind.Name)
     (λ member. opens_args k (RecvTree.given opening word name closing) dot member))))
 
+-- the state behind a whole method
 abbrev pub end_method : BodyPart → Stmts → Token → ArgTree → Token → Token → State
 end_method (body_part (method_part (class_part list word name opening members) ty member paren) ps closing p perm start) b return_word a end finish =
     in_class (class_part list word name opening (Members.more_members members (MemberTree.method ty member paren ps closing p perm start b return_word a end finish)))
@@ -137,6 +146,7 @@ finish (to_read a name opening) e t _ = None
 finish (to_length a word long opening) e t kind.CloseBracket = Some (ends_value a (RhsTree.new_array word long opening e t) (λ rest. word ∷ long ∷ opening ∷ expr_text e (t ∷ rest)))
 finish (to_length a word long opening) e t _ = None
 
+-- the state behind a token where an operand is due, if the token isn't dead
 abbrev pub step_operand : List Pending → Purpose → Token → TokenKind → Option State
 step_operand ps k t kind.Number = Some (after (ExprTree.number t) ps k)
 step_operand ps k t kind.True = Some (after (ExprTree.true_word t) ps k)
@@ -154,14 +164,17 @@ abbrev pub behind : ExprTree → List Pending → Purpose → Token → TokenKin
 behind e ps k t other (Some o) = let r = reduce (level o) e ps in Some (operand (left r.0 o t ∷ r.1) k)
 behind e ps k t other None = let r = reduce 6 e ps in finish k r.0 t other
 
+-- the state behind a token where an argument is due, if the token isn't dead
 abbrev pub step_arg : ArgFor → Token → TokenKind → Option State
 step_arg k t kind.Consume = Some (expects (λ rest. arg_for_text k (t ∷ rest)) (level_arg_for k) a_variable (λ name. arg_taken k (ArgTree.consumed t name)))
 step_arg k t other = step_operand [] (to_arg k) t other
 
+-- the state behind a token where arguments are due, if the token isn't dead
 abbrev pub step_args : CallPart → Token → TokenKind → Option State
 step_args c t kind.CloseParen = Some (close_call c Args.no_args t)
 step_args c t other = step_arg (to_pass c no_arg_yet) t other
 
+-- the state behind a type and its name
 abbrev pub type_named : TypeFor → TypeTree → Token → State
 type_named (to_member c) ty name = member_named c ty name
 type_named (to_param m list) ty name = param_named m (push_param list ty name)
@@ -171,6 +184,7 @@ type_named (to_local o) ty name = local_named o ty name
 abbrev pub typed : TypeFor → TypeTree → State
 typed k ty = expects (λ rest. type_for_text k (type_text ty rest)) (level_type_for k) (exactly kind.Name) (λ name. type_named k ty name)
 
+-- the state behind a token where a type is due, if the token isn't dead
 abbrev pub step_type : TypeFor → Token → TokenKind → Option State
 step_type k t kind.Long = Some (typed k (TypeTree.long_type t))
 step_type k t kind.Bool = Some (typed k (TypeTree.bool_type t))
@@ -180,6 +194,7 @@ step_type k t kind.Readable = Some (perm_seen k perm.Readable t)
 step_type k t kind.Writable = Some (perm_seen k perm.Writable t)
 step_type k t _ = None
 
+-- the state behind a token where the word of a permission stands, if the token isn't dead
 abbrev pub step_perm_seen : TypeFor → Perm → Token → Token → TokenKind → Option State
 step_perm_seen k p word t kind.Name = Some (typed k (TypeTree.object_type p word t))
 step_perm_seen k p word t kind.Long =
@@ -188,40 +203,49 @@ step_perm_seen k p word t kind.Long =
     (λ closing. typed k (TypeTree.array_type p word t opening closing))))
 step_perm_seen k p word t _ = None
 
+-- the state behind a token where classes stand, if the token isn't dead
 abbrev pub step_classes : Classes → Token → TokenKind → Option State
 step_classes list t kind.Class =
     Some (expects (λ rest. program_text list (t ∷ rest)) 0 (exactly kind.Name)
     (λ name. expects (λ rest. program_text list (t ∷ name ∷ rest)) 0 (exactly kind.OpenBrace) (λ opening. in_class (class_part list t name opening Members.no_members))))
 step_classes list t _ = None
 
+-- the state behind a whole class
 abbrev pub end_class : ClassPart → Token → State
 end_class (class_part list word name opening members) t = between_classes (Classes.more_classes list word name opening members t)
 
+-- the state behind a token where a member is due, if the token isn't dead
 abbrev pub step_in_class : ClassPart → Token → TokenKind → Option State
 step_in_class c t kind.CloseBrace = Some (end_class c t)
 step_in_class c t other = step_type (to_member c) t other
 
+-- the state behind a whole field
 abbrev pub end_field : ClassPart → TypeTree → Token → Token → State
 end_field (class_part list word name opening members) ty member t = in_class (class_part list word name opening (Members.more_members members (MemberTree.field_member ty member t)))
 
+-- the state behind a token where a member has its name, if the token isn't dead
 abbrev pub step_member_named : ClassPart → TypeTree → Token → Token → TokenKind → Option State
 step_member_named c ty name t kind.Semicolon = Some (end_field c ty name t)
 step_member_named c ty name t kind.OpenParen = Some (params_due (method_part c ty name t))
 step_member_named c ty name t _ = None
 
+-- the state behind a token where parameters are due, if the token isn't dead
 abbrev pub step_params : MethodPart → Token → TokenKind → Option State
 step_params m t kind.CloseParen = Some (perm_due m Params.no_params t)
 step_params m t other = step_type (to_param m no_param_yet) t other
 
+-- the state behind a token where a parameter has its name, if the token isn't dead
 abbrev pub step_param_named : MethodPart → ParamList → Token → TokenKind → Option State
 step_param_named m list t kind.Comma = Some (type_due (to_param m (behind_param list t)))
 step_param_named m list t kind.CloseParen = Some (perm_due m (Params.params list) t)
 step_param_named m list t _ = None
 
+-- the state behind the permission of a method
 abbrev pub opens_body : MethodPart → Params → Token → Perm → Token → State
 opens_body m list closing p t =
     expects (λ rest. method_part_text m (params_text list (closing ∷ t ∷ rest))) 1 (exactly kind.OpenBrace) (λ opening. listing (at (body (body_part m list closing p t opening)) Stmts.no_stmts))
 
+-- the state behind a token where the permission of a method is due, if the token isn't dead
 abbrev pub step_perm : MethodPart → Params → Token → Token → TokenKind → Option State
 step_perm m list closing t kind.Isolated = Some (opens_body m list closing perm.Isolated t)
 step_perm m list closing t kind.Immutable = Some (opens_body m list closing perm.Immutable t)
@@ -238,6 +262,7 @@ closed u b (left_lead word) a = Some (enter (at u b) (right_lead word a))
 closed u b (right_lead word a) c = Some (listing (at u (Stmts.more_stmts b (StmtTree.par word a c))))
 closed u b (recover_lead target equals word) a = None
 
+-- the state behind a brace that closes the open block
 abbrev pub close_block : Open → Token → Option State
 close_block (at (body d) b) t = None
 close_block (at (inside u c lead opening) b) t = closed u c lead (BlockTree.block opening b t)
@@ -253,14 +278,17 @@ gives u c (recover_lead target equals word) opening b t =
     (λ last. listing (at u (Stmts.more_stmts c (StmtTree.assign target equals (RhsTree.recover word opening b t name end closing) last))))))))
 gives u c _ opening b t = None
 
+-- the state behind a `give` in the open block
 abbrev pub give_block : Open → Token → Option State
 give_block (at (body d) b) t = None
 give_block (at (inside u c lead opening) b) t = gives u c lead opening b t
 
+-- the state behind a `return` in the open block
 abbrev pub return_block : Open → Token → Option State
 return_block (at (body d) b) t = Some (arg_due (to_return d b t))
 return_block (at (inside u c lead opening) b) t = None
 
+-- the state behind a token where statements stand, if the token isn't dead
 abbrev pub step_listing : Open → Token → TokenKind → Option State
 step_listing o t kind.Name = Some (begun o t)
 step_listing o t kind.This = Some (begun o t)
@@ -274,29 +302,35 @@ step_listing o t kind.Give = give_block o t
 step_listing o t kind.Return = return_block o t
 step_listing o t other = step_type (to_local o) t other
 
+-- the open block with an `if` without `else`
 abbrev pub add_if : Open → Token → Token → ExprTree → Token → BlockTree → Open
 add_if (at u b) word opening e closing a = at u (Stmts.more_stmts b (StmtTree.if_then word opening e closing a))
 
+-- the state behind a token where the first block of an `if` stands, if the token isn't dead
 abbrev pub step_after_then : Open → Token → Token → ExprTree → Token → BlockTree → Token → TokenKind → Option State
 step_after_then o word opening e closing a t kind.Else = Some (enter o (else_lead word opening e closing a t))
 step_after_then o word opening e closing a t other = step_listing (add_if o word opening e closing a) t other
 
+-- the state behind a token where a local variable has its name, if the token isn't dead
 abbrev pub step_local_named : Open → TypeTree → Token → Token → TokenKind → Option State
 step_local_named o ty name t kind.Semicolon = Some (add o (StmtTree.declare ty name t))
 step_local_named o ty name t kind.Assign = Some (value_due (assigning o (TargetTree.declared ty name) t))
 step_local_named o ty name t _ = None
 
+-- the state behind a token where a statement has begun with a name, if the token isn't dead
 abbrev pub step_begun : Open → Token → Token → TokenKind → Option State
 step_begun o name t kind.Assign = taken (sameb the_type kind.Name name.kind) (value_due (assigning o (TargetTree.known name) t))
 step_begun o name t kind.Dot = Some (expects (λ rest. open_text o (name ∷ t ∷ rest)) (level_open o) (exactly kind.Name) (λ member. member_seen o name t member))
 step_begun o name t kind.OpenBracket = Some (operand [] (to_index o name t))
 step_begun o name t _ = None
 
+-- the state behind a token where a member of a variable stands, if the token isn't dead
 abbrev pub step_member_seen : Open → Token → Token → Token → Token → TokenKind → Option State
 step_member_seen o name dot member t kind.Assign = Some (arg_due (to_set o name dot member t))
 step_member_seen o name dot member t kind.OpenParen = Some (args_due (call_part (to_stand o) (RecvTree.lent name) dot member t))
 step_member_seen o name dot member t _ = None
 
+-- the state behind a token where a right side is due, if the token isn't dead
 abbrev pub step_value : Assigning → Token → TokenKind → Option State
 step_value a t kind.Consume = Some (expects (λ rest. assigning_text a (t ∷ rest)) (level_assigning a) a_variable (λ name. value_consumed a t name))
 step_value a t kind.Name = Some (value_named a t)
@@ -306,16 +340,19 @@ step_value a t kind.OpenParen = Some (paren_seen a t)
 step_value (assigning o target equals) t kind.Recover = Some (enter o (recover_lead target equals t))
 step_value a t other = step_operand [] (to_arg (to_value a)) t other
 
+-- the state behind a token where a right side has begun with a name, if the token isn't dead
 abbrev pub step_value_named : Assigning → Token → Token → TokenKind → Option State
 step_value_named a name t kind.Dot = Some (expects (λ rest. assigning_text a (name ∷ t ∷ rest)) (level_assigning a) (exactly kind.Name) (λ member. value_member a name t member))
 step_value_named a name t kind.OpenBracket = Some (operand [] (to_read a name t))
 step_value_named a name t other = behind (ExprTree.variable name) [] (to_arg (to_value a)) t other (op_of other)
 
+-- the state behind a token where a right side has a member, if the token isn't dead
 abbrev pub step_value_member : Assigning → Token → Token → Token → Token → TokenKind → Option State
 step_value_member a name dot member t kind.Semicolon = Some (assigned a (RhsTree.field name dot member) t)
 step_value_member a name dot member t kind.OpenParen = Some (args_due (call_part (to_assign a) (RecvTree.lent name) dot member t))
 step_value_member a name dot member t _ = None
 
+-- the state behind a token where a right side has `consume` and a name, if the token isn't dead
 abbrev pub step_value_consumed : Assigning → Token → Token → Token → TokenKind → Option State
 step_value_consumed a word name t kind.Dot =
     Some (expects (λ rest. assigning_text a (word ∷ name ∷ t ∷ rest)) (level_assigning a) (exactly kind.Name)
@@ -323,10 +360,12 @@ step_value_consumed a word name t kind.Dot =
 step_value_consumed a word name t kind.Semicolon = Some (assigned a (RhsTree.value (ArgTree.consumed word name)) t)
 step_value_consumed a word name t _ = None
 
+-- the state behind a token where a right side has begun with a parenthesis, if the token isn't dead
 abbrev pub step_paren : Assigning → Token → Token → TokenKind → Option State
 step_paren a opening t kind.Consume = Some (gives_receiver (to_assign a) opening t)
 step_paren a opening t other = step_operand [] (inner [] (to_arg (to_value a)) opening) t other
 
+-- the state behind a token where a right side has begun with `new`, if the token isn't dead
 abbrev pub step_new : Assigning → Token → Token → TokenKind → Option State
 step_new a word t kind.Name =
     Some (expects (λ rest. assigning_text a (word ∷ t ∷ rest)) (level_assigning a) (exactly kind.OpenParen)
@@ -364,6 +403,7 @@ step_as (arg_taken k a) t other = finish_arg k a t other
 step_as (operand ps k) t other = step_operand ps k t other
 step_as (after e ps k) t other = behind e ps k t other (op_of other)
 
+-- the state behind a token, if that isn't dead
 abbrev pub step : State → Token → Option State
 step q t = step_as q t t.kind
 
@@ -374,6 +414,7 @@ abbrev pub noted : Option State → (State → List ℕ × Option State) → Lis
 noted None go = ([], None)
 noted (Some q) go = let r = go q in (level_state q ∷ r.0, r.1)
 
+-- the levels behind tokens, and the state behind them all
 abbrev pub walk : State → List Token → List ℕ × Option State
 walk q [] = ([], Some q)
 walk q (t ∷ ts) = noted (step q t) (λ r. walk r ts)

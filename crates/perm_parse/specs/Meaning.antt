@@ -37,6 +37,7 @@ named text t s =
     let name = slice_range text t.span.start t.span.end in
     numbered name s (position (λ other. bytes_eq other name) s.names)
 
+-- a name where it stands, by its number
 abbrev pub ident : List ℕ → Token → Listing → Ident × Listing
 ident text t s = let r = named text t s in (record { name = r.0; span = t.span }, r.1)
 
@@ -45,6 +46,7 @@ abbrev pub var_as : List ℕ → Token → Listing → TokenKind → Ident × Li
 var_as text t s This = (record { name = 0; span = t.span }, s)
 var_as text t s _ = ident text t s
 
+-- a name or `this` where it stands, by its number
 abbrev pub var : List ℕ → Token → Listing → Ident × Listing
 var text t s = var_as text t s t.kind
 
@@ -54,29 +56,35 @@ var text t s = var_as text t s t.kind
 abbrev pub span_over : Token → Token → Span
 span_over first last = record { start = first.span.start; end = last.span.end }
 
+-- the place of one expression more, and the program with it
 abbrev pub push_expr : Expr → Listing → ℕ × Listing
 push_expr e s = (length s.exprs, record s { exprs = s.exprs ++ e ∷ [] })
 
+-- the place of one statement more, and the program with it
 abbrev pub push_stmt : Stmt → Listing → ℕ × Listing
 push_stmt x s = (length s.stmts, record s { stmts = s.stmts ++ x ∷ [] })
 
+-- the program with one mentioned class name more
 abbrev pub push_mention : Ident → Listing → Listing
 push_mention i s = record s { mentions = s.mentions ++ i ∷ [] }
 
 -- ---- types and expressions
 
+-- what a type means, and the program after it
 abbrev pub type_of : List ℕ → TypeTree → Listing → Ty × Listing
 type_of text (TypeTree.long_type t) s = (Long, s)
 type_of text (TypeTree.bool_type t) s = (Bool, s)
 type_of text (TypeTree.object_type p perm name) s = let r = ident text name s in (Ref p (Class r.0.name), push_mention r.0 r.1)
 type_of text (TypeTree.array_type p perm word opening closing) s = (Ref p Array, s)
 
+-- the first token of a type
 abbrev pub type_first : TypeTree → Token
 type_first (TypeTree.long_type t) = t
 type_first (TypeTree.bool_type t) = t
 type_first (TypeTree.object_type p perm name) = perm
 type_first (TypeTree.array_type p perm word opening closing) = perm
 
+-- what an expression means, and the program after it
 abbrev pub expr_of : List ℕ → ExprTree → Listing → ℕ × Listing
 expr_of text (ExprTree.number t) s = push_expr (node.Number (pos t.value)) s
 expr_of text (ExprTree.true_word t) s = push_expr (node.Bool true) s
@@ -92,10 +100,12 @@ expr_of text (ExprTree.binary o a t b) s =
 
 -- ---- arguments and calls
 
+-- what an argument means, and the program after it
 abbrev pub arg_of : List ℕ → ArgTree → Listing → Arg × Listing
 arg_of text (ArgTree.plain e) s = let r = expr_of text e s in (argument.Expr r.0, r.1)
 arg_of text (ArgTree.consumed word name) s = let r = var text name s in (argument.Consume r.0, r.1)
 
+-- what arguments with commas between them means, and the program after it
 abbrev pub arg_list_of : List ℕ → ArgList → Listing → List Arg × Listing
 arg_list_of text (ArgList.one_arg a) s = let r = arg_of text a s in (r.0 ∷ [], r.1)
 arg_list_of text (ArgList.more_args list comma a) s =
@@ -103,6 +113,7 @@ arg_list_of text (ArgList.more_args list comma a) s =
     let y = arg_of text a x.1 in
     (x.0 ++ y.0 ∷ [], y.1)
 
+-- what the arguments of a call means, and the program after it
 abbrev pub args_of : List ℕ → Args → Listing → List Arg × Listing
 args_of text Args.no_args s = ([], s)
 args_of text (Args.args list) s = arg_list_of text list s
@@ -112,10 +123,12 @@ abbrev pub recv_of : List ℕ → RecvTree → Listing → Boolean × Ident × L
 recv_of text (RecvTree.lent name) s = let r = var text name s in (false, r.0, r.1)
 recv_of text (RecvTree.given opening word name closing) s = let r = var text name s in (true, r.0, r.1)
 
+-- the first token of a receiver
 abbrev pub recv_first : RecvTree → Token
 recv_first (RecvTree.lent name) = name
 recv_first (RecvTree.given opening word name closing) = opening
 
+-- what a call means, and the program after it
 abbrev pub call_of : List ℕ → CallTree → Listing → Call × Listing
 call_of text (CallTree.call recv dot name opening list closing) s =
     let x = recv_of text recv s in
@@ -123,6 +136,7 @@ call_of text (CallTree.call recv dot name opening list closing) s =
     let z = args_of text list y.1 in
     (record { consumed = x.0; on = x.1; method = y.0; args = z.0 }, z.1)
 
+-- the first token of a call
 abbrev pub call_first : CallTree → Token
 call_first (CallTree.call recv dot name opening list closing) = recv_first recv
 
@@ -136,6 +150,7 @@ target_of text (TargetTree.declared ty name) s =
     let r = ident text name x.1 in
     (Some x.0, r.0, r.1)
 
+-- the first token of the left side of an assignment
 abbrev pub target_first : TargetTree → Token
 target_first (TargetTree.known name) = name
 target_first (TargetTree.declared ty name) = type_first ty
@@ -145,6 +160,7 @@ abbrev pub head_last : RhsTree → Token → Token
 head_last (RhsTree.recover word opening b give name semicolon closing) end = word
 head_last _ end = end
 
+-- the brace that closes a block
 abbrev pub block_last : BlockTree → Token
 block_last (BlockTree.block opening b closing) = closing
 
@@ -153,6 +169,7 @@ abbrev pub simple : Token → Token → StmtKind → Stmt
 simple first last kind = record { span = span_over first last; head = span_over first last; kind = kind }
 
 abbrev mutual
+  -- what a right side means, and the program after it
   pub rhs_of : List ℕ → RhsTree → Listing → Rhs × Listing
   rhs_of text (RhsTree.value a) s = let r = arg_of text a s in (right.Value r.0, r.1)
   rhs_of text (RhsTree.field name dot member) s =
@@ -175,9 +192,11 @@ abbrev mutual
       let y = ident text name x.1 in
       (right.Recover (record { stmts = x.0 }) y.0 (span_over give end), y.1)
 
+  -- what a block means, and the program after it
   pub block_of : List ℕ → BlockTree → Listing → Block × Listing
   block_of text (BlockTree.block opening b closing) s = let r = stmts_of text b s in (record { stmts = r.0 }, r.1)
 
+  -- what a statement means, and the program after it
   pub stmt_of : List ℕ → StmtTree → Listing → Stmt × Listing
   stmt_of text (StmtTree.declare ty name end) s =
       let x = type_of text ty s in
@@ -228,6 +247,7 @@ abbrev mutual
 
 -- ---- members and classes
 
+-- what parameters with commas between them means, and the program after it
 abbrev pub param_list_of : List ℕ → ParamList → Listing → List FieldDecl × Listing
 param_list_of text (ParamList.one_param ty name) s =
     let x = type_of text ty s in
@@ -239,10 +259,12 @@ param_list_of text (ParamList.more_params list comma ty name) s =
     let y = ident text name x.1 in
     (z.0 ++ record { ty = x.0; name = y.0 } ∷ [], y.1)
 
+-- what the parameters of a method means, and the program after it
 abbrev pub params_of : List ℕ → Params → Listing → List FieldDecl × Listing
 params_of text Params.no_params s = ([], s)
 params_of text (Params.params list) s = param_list_of text list s
 
+-- what stands of a method before its body, and the program after it
 abbrev pub method_of : List ℕ → TypeTree → Token → Params → Listing → Ty × Ident × List FieldDecl × Listing
 method_of text ty name list s =
     let x = type_of text ty s in
@@ -263,10 +285,12 @@ member_of text (MemberTree.method ty name opening list closing p perm start b wo
     let made : Method = record { result = head.0; name = head.1; params = head.2; receiver = p; body = record { stmts = x.0 }; back = y.0; span = span_over word end } in
     (fields, methods ++ made ∷ [], y.1)
 
+-- what the members of a class means, and the program after it
 abbrev pub members_of : List ℕ → Members → Listing → List FieldDecl × List Method × Listing
 members_of text Members.no_members s = ([], [], s)
 members_of text (Members.more_members list x) s = let r = members_of text list s in member_of text x r.0 r.1 r.2
 
+-- the program that classes mean
 abbrev pub classes_of : List ℕ → Classes → Listing → Listing
 classes_of text Classes.no_classes s = s
 classes_of text (Classes.more_classes list word name opening members closing) s =

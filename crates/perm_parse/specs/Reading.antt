@@ -62,6 +62,7 @@ Expected wanted old new (Err e) = (e ≡ Unexpected old.at) × ((t : Token) → 
 abbrev pub IsNext : TokenKind → Parser → Type 0
 IsNext wanted p = (t : Token) × (Next p t × Is wanted t)
 
+-- no token of this kind comes next
 abbrev pub IsNotNext : TokenKind → Parser → Type 0
 IsNotNext wanted p = (t : Token) → Next p t → Is wanted t → ⊥
 
@@ -114,6 +115,7 @@ Variable t old new (Err err) = err ≡ NoMemory
 pub record Leads (p : Parser) (q : State) (r : Parser) (s : State) : Type 0 where
   pub same : From p q ≡ From r s
 
+-- the refusal is this answer
 abbrev pub Refused : ParseError → Answer → Type 0
 Refused (Unexpected i) answer = answer ≡ unexpected i
 Refused (TooDeep i) answer = answer ≡ too_deep i
@@ -139,6 +141,7 @@ abbrev pub of_level : ℕ → Option BinaryOp → Option BinaryOp
 of_level wanted None = None
 of_level wanted (Some o) = if level o == wanted then Some o else None
 
+-- the operator of a token, if it is of this level
 abbrev pub operator_at : ℕ → Option Token → Option BinaryOp
 operator_at wanted None = None
 operator_at wanted (Some t) = of_level wanted (op_of t.kind)
@@ -150,6 +153,7 @@ pub record ExprRead (l depth : ℕ) (old new : Parser) (e : ℕ) : Type 0 where
   pub program : new.program ≡ (expr_of old.text.now tree old.program).1
   pub leads : (ps : List Pending) (k : Purpose) → level_pending (level_purpose k) ps ≡ depth → Room l ps → Leads old (State.operand ps k) new (State.after tree ps k)
 
+-- what a method that reads an expression answers: it was read, whatever stands round it, or refused
 abbrev pub ReadsExpr : ℕ → ℕ → Parser → Parser → Result ℕ ParseError → Type 0
 ReadsExpr l depth old new (Ok e) = ExprRead l depth old new e
 ReadsExpr l depth old new (Err e) = (ps : List Pending) (k : Purpose) → level_pending (level_purpose k) ps ≡ depth → Room l ps → Refuses old (State.operand ps k) e
@@ -163,6 +167,7 @@ pub record ArgRead (depth : ℕ) (old new : Parser) (a : Arg) : Type 0 where
   pub program : new.program ≡ (arg_of old.text.now tree old.program).1
   pub leads : (k : ArgFor) → level_arg_for k ≡ depth → Leads old (State.arg_due k) new (State.arg_taken k tree)
 
+-- what a method that reads an argument answers: it was read, whatever stands round it, or refused
 abbrev pub ReadsArg : ℕ → Parser → Parser → Result Arg ParseError → Type 0
 ReadsArg depth old new (Ok a) = ArgRead depth old new a
 ReadsArg depth old new (Err e) = (k : ArgFor) → level_arg_for k ≡ depth → Refuses old (State.arg_due k) e
@@ -183,6 +188,7 @@ pub record ArgsRead (depth : ℕ) (old new : Parser) (list : List Arg) : Type 0 
   pub program : new.program ≡ (args_of old.text.now tree old.program).1
   pub leads : (c : CallPart) → level_call_part c ≡ depth → Leads old (State.args_due c) new (close_call c tree closing)
 
+-- what a method that reads the arguments of a call answers: it was read, whatever stands round it, or refused
 abbrev pub ReadsArgs : ℕ → Parser → Parser → Result (List Arg) ParseError → Type 0
 ReadsArgs depth old new (Ok list) = ArgsRead depth old new list
 ReadsArgs depth old new (Err e) = (c : CallPart) → level_call_part c ≡ depth → Refuses old (State.args_due c) e
@@ -201,6 +207,7 @@ pub record GivenRead (depth : ℕ) (old new : Parser) (c : Call) : Type 0 where
   pub leads : (k : CallFor) (opening word : Token) → level_call_for k ≡ depth →
       Leads old (gives_receiver k opening word) new (close_call (CallPart.call_part k (RecvTree.given opening word name closing) dot member paren) list end)
 
+-- what a method that reads a call on a consumed receiver answers: it was read, whatever stands round it, or refused
 abbrev pub ReadsGiven : ℕ → Parser → Parser → Result Call ParseError → Type 0
 ReadsGiven depth old new (Ok c) = GivenRead depth old new c
 ReadsGiven depth old new (Err e) = (k : CallFor) (opening word : Token) → level_call_for k ≡ depth → Refuses old (gives_receiver k opening word) e
@@ -215,6 +222,7 @@ pub record ShapeRead (depth : ℕ) (p : Perm) (old new : Parser) (t : Ty) : Type
   pub program : (word : Token) → new.program ≡ (type_of old.text.now (tree word) old.program).1
   pub leads : (k : TypeFor) (word : Token) → level_type_for k ≡ depth → Leads old (State.perm_seen k p word) new (typed k (tree word))
 
+-- what a method that reads a type behind its permission answers: it was read, whatever stands round it, or refused
 abbrev pub ReadsShape : ℕ → Perm → Parser → Parser → Result Ty ParseError → Type 0
 ReadsShape depth p old new (Ok t) = ShapeRead depth p old new t
 ReadsShape depth p old new (Err e) = (k : TypeFor) (word : Token) → level_type_for k ≡ depth → Refuses old (State.perm_seen k p word) e
@@ -227,6 +235,7 @@ pub record TypeRead (depth : ℕ) (old new : Parser) (t : Ty) : Type 0 where
   pub program : new.program ≡ (type_of old.text.now tree old.program).1
   pub leads : (k : TypeFor) → level_type_for k ≡ depth → Leads old (State.type_due k) new (typed k tree)
 
+-- what a method that reads a type answers: it was read, whatever stands round it, or refused
 abbrev pub ReadsType : ℕ → Parser → Parser → Result Ty ParseError → Type 0
 ReadsType depth old new (Ok t) = TypeRead depth old new t
 ReadsType depth old new (Err e) = (k : TypeFor) → level_type_for k ≡ depth → Refuses old (State.type_due k) e
@@ -255,6 +264,7 @@ pub record LocalRead (depth : ℕ) (old new : Parser) (h : LocalHead) : Type 0 w
   pub first : h.first ≡ type_first tree
   pub leads : (o : Open) → level_open o ≡ depth → Leads old (State.listing o) new (State.local_named o tree word)
 
+-- what a method that reads the head of a local declaration answers: it was read, whatever stands round it, or refused
 abbrev pub ReadsLocal : ℕ → Parser → Parser → Result LocalHead ParseError → Type 0
 ReadsLocal depth old new (Ok h) = LocalRead depth old new h
 ReadsLocal depth old new (Err e) = (o : Open) → level_open o ≡ depth → Refuses old (State.listing o) e
@@ -265,9 +275,11 @@ ReadsLocal depth old new (Err e) = (o : Open) → level_open o ≡ depth → Ref
 abbrev pub Second : Parser → Token → Type 0
 Second p t = slice_get p.tokens.now (p.at + 1) ≡ Some t
 
+-- a token of this kind stands behind the next one
 abbrev pub IsSecond : TokenKind → Parser → Type 0
 IsSecond wanted p = (t : Token) × (Second p t × Is wanted t)
 
+-- no token of this kind stands behind the next one
 abbrev pub IsNotSecond : TokenKind → Parser → Type 0
 IsNotSecond wanted p = (t : Token) → Second p t → Is wanted t → ⊥
 
@@ -292,6 +304,7 @@ pub record ValueRead (depth : ℕ) (old new : Parser) (v : Value) : Type 0 where
   pub head : v.head ≡ head_last tree v.end
   pub leads : (a : Assigning) → level_assigning a ≡ depth → Leads old (State.value_due a) new (assigned a tree v.end)
 
+-- what a method that reads a right side answers: it was read, whatever stands round it, or refused
 abbrev pub ReadsValue : ℕ → Parser → Parser → Result Value ParseError → Type 0
 ReadsValue depth old new (Ok v) = ValueRead depth old new v
 ReadsValue depth old new (Err e) = (a : Assigning) → level_assigning a ≡ depth → Refuses old (State.value_due a) e
@@ -313,6 +326,7 @@ pub record StmtEnded (first : Token) (k : StmtKind) (old new : Parser) (n : ℕ)
   pub place : n ≡ length old.program.stmts
   pub program : new.program ≡ (push_stmt (simple first end k) old.program).1
 
+-- what a method that ends a statement answers
 abbrev pub EndsStmt : Token → StmtKind → Parser → Parser → Result ℕ ParseError → Type 0
 EndsStmt first k old new (Ok n) = StmtEnded first k old new n
 EndsStmt first k old new (Err (Unexpected i)) = (i ≡ old.at) × IsNotNext kind.Semicolon old
@@ -326,6 +340,7 @@ pub record StmtRead (depth : ℕ) (old new : Parser) (n : ℕ) : Type 0 where
   pub program : new.program ≡ (push_stmt (stmt_of old.text.now tree old.program).0 (stmt_of old.text.now tree old.program).1).1
   pub leads : (u : Outer) (b : Stmts) → level_outer u ≡ depth → Leads old (State.listing (Open.at u b)) new (State.listing (Open.at u (Stmts.more_stmts b tree)))
 
+-- what a method that reads a statement answers: it was read, whatever stands round it, or refused
 abbrev pub ReadsStmt : ℕ → Parser → Parser → Result ℕ ParseError → Type 0
 ReadsStmt depth old new (Ok n) = StmtRead depth old new n
 ReadsStmt depth old new (Err e) = (u : Outer) (b : Stmts) → level_outer u ≡ depth → Refuses old (State.listing (Open.at u b)) e

@@ -127,24 +127,30 @@ pub data State : Type 0 where
 
 -- ---- the tokens so far, and behind them the others
 
+-- the tokens of operators and left operands that wait, and behind them the others
 abbrev pub pending_text : List Pending → List Token → List Token
 pending_text [] rest = rest
 pending_text (before o t ∷ ps) rest = pending_text ps (t ∷ rest)
 pending_text (left a o t ∷ ps) rest = pending_text ps (expr_text a (t ∷ rest))
 
+-- the tokens of a class so far, and behind them the others
 abbrev pub class_part_text : ClassPart → List Token → List Token
 class_part_text (class_part list word name opening members) rest = program_text list (word ∷ name ∷ opening ∷ members_text members rest)
 
+-- the tokens of a method so far, and behind them the others
 abbrev pub method_part_text : MethodPart → List Token → List Token
 method_part_text (method_part c ty name opening) rest = class_part_text c (type_text ty (name ∷ opening ∷ rest))
 
+-- the tokens of parameters so far, and behind them the others
 abbrev pub params_part_text : ParamsPart → List Token → List Token
 params_part_text no_param_yet rest = rest
 params_part_text (behind_param list comma) rest = param_list_text list (comma ∷ rest)
 
+-- the tokens of a body so far, and behind them the others
 abbrev pub body_part_text : BodyPart → List Token → List Token
 body_part_text (body_part m list closing p word opening) rest = method_part_text m (params_text list (closing ∷ word ∷ opening ∷ rest))
 
+-- the tokens of what stands before a block, and behind them the others
 abbrev pub lead_text : Lead → List Token → List Token
 lead_text (then_lead word opening e closing) rest = word ∷ opening ∷ expr_text e (closing ∷ rest)
 lead_text (else_lead word opening e closing a otherwise) rest = word ∷ opening ∷ expr_text e (closing ∷ block_text a (otherwise ∷ rest))
@@ -153,33 +159,41 @@ lead_text (left_lead word) rest = word ∷ rest
 lead_text (right_lead word a) rest = word ∷ block_text a rest
 lead_text (recover_lead target equals word) rest = target_text target (equals ∷ word ∷ rest)
 
+-- the tokens of the blocks round a place, and behind them the others
 abbrev pub outer_text : Outer → List Token → List Token
 outer_text (body b) rest = body_part_text b rest
 outer_text (inside u b lead opening) rest = outer_text u (stmts_text b (lead_text lead (opening ∷ rest)))
 
+-- the tokens of the open block so far, and behind them the others
 abbrev pub open_text : Open → List Token → List Token
 open_text (at u b) rest = outer_text u (stmts_text b rest)
 
+-- the tokens of an assignment up to its right side, and behind them the others
 abbrev pub assigning_text : Assigning → List Token → List Token
 assigning_text (assigning o target equals) rest = open_text o (target_text target (equals ∷ rest))
 
+-- the tokens of what a call is read for, and behind them the others
 abbrev pub call_for_text : CallFor → List Token → List Token
 call_for_text (to_stand o) rest = open_text o rest
 call_for_text (to_assign a) rest = assigning_text a rest
 
+-- the tokens of a call so far, and behind them the others
 abbrev pub call_part_text : CallPart → List Token → List Token
 call_part_text (call_part k recv dot name opening) rest = call_for_text k (recv_text recv (dot ∷ name ∷ opening ∷ rest))
 
+-- the tokens of arguments so far, and behind them the others
 abbrev pub args_part_text : ArgsPart → List Token → List Token
 args_part_text no_arg_yet rest = rest
 args_part_text (behind_arg list comma) rest = arg_list_text list (comma ∷ rest)
 
+-- the tokens of what an argument is read for, and behind them the others
 abbrev pub arg_for_text : ArgFor → List Token → List Token
 arg_for_text (to_set o name dot member equals) rest = open_text o (name ∷ dot ∷ member ∷ equals ∷ rest)
 arg_for_text (to_value a) rest = assigning_text a rest
 arg_for_text (to_pass c list) rest = call_part_text c (args_part_text list rest)
 arg_for_text (to_return b list word) rest = body_part_text b (stmts_text list (word ∷ rest))
 
+-- the tokens of what an expression is read for, and behind them the others
 abbrev pub purpose_text : Purpose → List Token → List Token
 purpose_text (inner ps k opening) rest = purpose_text k (pending_text ps (opening ∷ rest))
 purpose_text (to_arg k) rest = arg_for_text k rest
@@ -191,6 +205,7 @@ purpose_text (to_item o name opening i closing equals) rest = open_text o (name 
 purpose_text (to_read a name opening) rest = assigning_text a (name ∷ opening ∷ rest)
 purpose_text (to_length a word long opening) rest = assigning_text a (word ∷ long ∷ opening ∷ rest)
 
+-- the tokens of what a type is read for, and behind them the others
 abbrev pub type_for_text : TypeFor → List Token → List Token
 type_for_text (to_member c) rest = class_part_text c rest
 type_for_text (to_param m list) rest = method_part_text m (params_part_text list rest)
@@ -198,23 +213,29 @@ type_for_text (to_local o) rest = open_text o rest
 
 -- ---- the level: brackets that are open, and unary operators whose operand isn't complete
 
+-- the level at the blocks round a place
 abbrev pub level_outer : Outer → ℕ
 level_outer (body b) = 2
 level_outer (inside u b lead opening) = level_outer u + 1
 
+-- the level at the open block so far
 abbrev pub level_open : Open → ℕ
 level_open (at u b) = level_outer u
 
+-- the level at an assignment up to its right side
 abbrev pub level_assigning : Assigning → ℕ
 level_assigning (assigning o target equals) = level_open o
 
+-- the level at what a call is read for
 abbrev pub level_call_for : CallFor → ℕ
 level_call_for (to_stand o) = level_open o
 level_call_for (to_assign a) = level_assigning a
 
+-- the level at a call so far
 abbrev pub level_call_part : CallPart → ℕ
 level_call_part (call_part k recv dot name opening) = level_call_for k + 1
 
+-- the level at what an argument is read for
 abbrev pub level_arg_for : ArgFor → ℕ
 level_arg_for (to_set o name dot member equals) = level_open o
 level_arg_for (to_value a) = level_assigning a
@@ -227,6 +248,7 @@ level_pending d [] = d
 level_pending d (before o t ∷ ps) = level_pending d ps + 1
 level_pending d (left a o t ∷ ps) = level_pending d ps
 
+-- the level at what an expression is read for
 abbrev pub level_purpose : Purpose → ℕ
 level_purpose (inner ps k opening) = level_pending (level_purpose k) ps + 1
 level_purpose (to_arg k) = level_arg_for k
@@ -238,11 +260,13 @@ level_purpose (to_item o name opening i closing equals) = level_open o
 level_purpose (to_read a name opening) = level_assigning a + 1
 level_purpose (to_length a word long opening) = level_assigning a + 1
 
+-- the level at what a type is read for
 abbrev pub level_type_for : TypeFor → ℕ
 level_type_for (to_member c) = 1
 level_type_for (to_param m list) = 2
 level_type_for (to_local o) = level_open o
 
+-- the level at a state
 abbrev pub level_state : State → ℕ
 level_state (expects so_far d wanted next) = d
 level_state (between_classes list) = 0

@@ -1,22 +1,15 @@
 //! Arguments, read by descent.
 
-ghost use Rattle.std.specs.Prelude.{◌≡◌, ℕ, ◌+◌, ◌<◌, ◌≤◌, [], ◌∷◌, ◌++◌, length, IfOk, OnOk, OnErr};
+ghost use Rattle.std.specs.Prelude.{ℕ, ◌+◌, ◌<◌, ◌≤◌, length, IfOk};
 ghost use Rattle.perm_tree.specs.Places.{ArgPlaced, ArgsPlaced};
 ghost use Rattle.perm_parse.specs.Reading.{IsNext, Onward, ReadsArg, ReadsArgs, ReadsGiven};
 
+use crate::cursor::append;
 use crate::parser::Parser;
 use perm_tree::ast::{Arg, Call};
 use perm_tree::errors::ParseError;
 use perm_tree::list::List;
 use perm_tree::tokens::TokenKind;
-
-/// Adds an argument at the end.
-fn append(list: &mut List<Arg>, a: Arg) -> Result<(), ParseError>
-    ensures ok { OnOk result (list.new ≡ list.old ++ a ∷ []) }
-    ensures err { OnErr result (result ≡ Err ParseError.NoMemory) }
-{
-    list.push(a).map_err(|_| ParseError::NoMemory)
-}
 
 impl<'a> Parser<'a> {
     /// `E` or `consume x`

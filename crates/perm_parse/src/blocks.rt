@@ -1,10 +1,11 @@
 //! Statements with blocks, and lists of statements, read by descent.
 
-ghost use Rattle.std.specs.Prelude.{◌≡◌, ℕ, ◌+◌, ◌≤◌, ◌<◌, [], ◌∷◌, ◌++◌, length, IfOk, OnOk, OnErr};
+ghost use Rattle.std.specs.Prelude.{◌≡◌, ℕ, ◌+◌, ◌≤◌, ◌<◌, length, IfOk};
 ghost use Rattle.std.specs.Bool.{OnTrue, OnFalse};
 ghost use Rattle.perm_tree.specs.Places.{AllBelow, RhsPlaced};
 ghost use Rattle.perm_parse.specs.Reading.{IsBegun, IsEnded, IsNext, IsNextType, IsNotSecond, Onward, ReadsBlock, ReadsStmt, ReadsStmts, ReadsTest, ReadsValue, begins_stmt};
 
+use crate::cursor::append;
 use crate::parser::{Braced, Parser, Test, Value};
 use crate::statements::span_over;
 use perm_tree::ast::{Block, Rhs, Stmt, StmtKind};
@@ -32,14 +33,6 @@ fn begins_stmt(kind: TokenKind) -> bool
         TokenKind::Par => true,
         _ => false,
     }
-}
-
-/// Adds the place of a statement at the end.
-fn append(list: &mut List<u32>, place: u32) -> Result<(), ParseError>
-    ensures ok { OnOk result (list.new ≡ list.old ++ place ∷ []) }
-    ensures err { OnErr result (result ≡ Err ParseError.NoMemory) }
-{
-    list.push(place).map_err(|_| ParseError::NoMemory)
 }
 
 impl<'a> Parser<'a> {

@@ -1,6 +1,6 @@
 //! The next token, and what is added to the program.
 
-ghost use Rattle.std.specs.Prelude.{◌≡◌, ℕ, ◌+◌, ◌<◌, ◌≤◌, length, slice_get, IfOk, position, bytes_eq};
+ghost use Rattle.std.specs.Prelude.{◌≡◌, ℕ, ◌+◌, ◌<◌, ◌≤◌, [], ◌∷◌, ◌++◌, length, slice_get, IfOk, OnErr, OnOk, position, bytes_eq};
 ghost use Rattle.std.specs.Bool.{OnTrue, OnFalse};
 ghost use Rattle.perm_tree.specs.Places.{ExprBelow, KindPlaced};
 ghost use Rattle.perm_parse.specs.Reading.{Expected, ExpectedVar, IsAhead, IsNext, IsNotNext, IsNotSecond, IsSecond, Mentioned, Named, Numbered, Onward, Opened, Pushed, PushedStmt, Variable};
@@ -8,11 +8,19 @@ ghost use Rattle.perm_parse.specs.Reading.{Expected, ExpectedVar, IsAhead, IsNex
 use crate::parser::Parser;
 use perm_tree::ast::{Expr, Ident, Stmt};
 use perm_tree::errors::ParseError;
-use perm_tree::list::Name;
+use perm_tree::list::{List, Name};
 use perm_tree::tokens::{Token, TokenKind};
 
 /// How many brackets and unary operators may be open.
 const DEEPEST: usize = 100;
+
+/// Adds an element at the end.
+pub fn append<T: Drop>(list: &mut List<T>, item: T) -> Result<(), ParseError>
+    ensures ok { OnOk result (list.new ≡ list.old ++ item ∷ []) }
+    ensures err { OnErr result ((result ≡ Err ParseError.NoMemory) × (list.new ≡ list.old)) }
+{
+    list.push(item).map_err(|_| ParseError::NoMemory)
+}
 
 impl<'a> Parser<'a> {
     /// The next token.

@@ -1,10 +1,11 @@
 //! Members of classes, read by descent. A member stands at level 1, and the parts of a method at level 2.
 
-ghost use Rattle.std.specs.Prelude.{◌≡◌, ℕ, ◌<◌, ◌≤◌, [], ◌∷◌, ◌++◌, length, IfOk, OnOk, OnErr};
+ghost use Rattle.std.specs.Prelude.{◌≡◌, ℕ, ◌<◌, ◌≤◌, length, IfOk, OnOk};
 ghost use Rattle.perm_tree.specs.Places.{AllBelow, ArgPlaced, ClassPlaced, MethodPlaced};
 ghost use Rattle.perm_parse.specs.Reading.{IsEnded, IsNext, IsNotNext, Onward};
 ghost use Rattle.perm_parse.specs.ReadingMembers.{ExpectedPerm, ReadsDecl, ReadsMember, ReadsMembers, ReadsMethod, ReadsParams, ReadsReturned, ReadsSignature};
 
+use crate::cursor::append;
 use crate::parser::Parser;
 use crate::statements::span_over;
 use perm_tree::ast::{Arg, Block, ClassDecl, FieldDecl, Ident, Method, Perm, Span};
@@ -24,14 +25,6 @@ struct Signature {
 struct Returned {
     back: Arg,
     span: Span,
-}
-
-/// Adds an element at the end.
-fn append<T: Drop>(list: &mut List<T>, item: T) -> Result<(), ParseError>
-    ensures ok { OnOk result (list.new ≡ list.old ++ item ∷ []) }
-    ensures err { OnErr result ((result ≡ Err ParseError.NoMemory) × (list.new ≡ list.old)) }
-{
-    list.push(item).map_err(|_| ParseError::NoMemory)
 }
 
 impl<'a> Parser<'a> {

@@ -9,6 +9,7 @@ low_in lows (Unary op a) = slice_index lows a
 low_in lows (Binary op a b) = min (slice_index lows a) (slice_index lows b)
 low_in lows _ = length lows
 
+-- the lows of expressions behind those whose lows are given
 abbrev pub lows_from : List ℕ → List Expr → List ℕ
 lows_from lows [] = lows
 lows_from lows (e ∷ es) = lows_from (lows ++ low_in lows e ∷ []) es

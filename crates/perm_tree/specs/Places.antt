@@ -22,6 +22,7 @@ pub record Listing : Type 0 where
   pub exprs : List Expr
   pub mentions : List Ident
 
+-- all places are below a number
 abbrev pub AllBelow : ℕ → List ℕ → Type 0
 AllBelow n [] = Unit {0}
 AllBelow n (x ∷ xs) = (x < n) × AllBelow n xs
@@ -32,10 +33,12 @@ ExprBelow at (Unary op e) = e < at
 ExprBelow at (Binary op a b) = (a < at) × (b < at)
 ExprBelow at _ = Unit {0}
 
+-- the expression of an argument is there
 abbrev pub ArgPlaced : ℕ → Arg → Type 0
 ArgPlaced exprs (Plain e) = e < exprs
 ArgPlaced exprs (Consume y) = Unit {0}
 
+-- the same of arguments
 abbrev pub ArgsPlaced : ℕ → List Arg → Type 0
 ArgsPlaced exprs [] = Unit {0}
 ArgsPlaced exprs (a ∷ rest) = ArgPlaced exprs a × ArgsPlaced exprs rest
@@ -49,6 +52,7 @@ RhsPlaced exprs at (Call c) = ArgsPlaced exprs c.args
 RhsPlaced exprs at (Recover b w give) = AllBelow at b.stmts
 RhsPlaced exprs at _ = Unit {0}
 
+-- the statements behind `else` stand before a place
 abbrev pub ElseBelow : ℕ → Option Block → Type 0
 ElseBelow at None = Unit {0}
 ElseBelow at (Some b) = AllBelow at b.stmts
@@ -65,6 +69,7 @@ KindPlaced exprs at (If e a b) = (e < exprs) × AllBelow at a.stmts × ElseBelow
 KindPlaced exprs at (While e a) = (e < exprs) × AllBelow at a.stmts
 KindPlaced exprs at (Par a b) = AllBelow at a.stmts × AllBelow at b.stmts
 
+-- the statements of a body and the returned expression are there
 abbrev pub MethodPlaced : ℕ → ℕ → Method → Type 0
 MethodPlaced exprs stmts d = AllBelow stmts d.body.stmts × ArgPlaced exprs d.back
 
