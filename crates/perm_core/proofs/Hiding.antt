@@ -26,7 +26,8 @@ use Rattle.perm_rules.specs.Goes.{context, first_live}
 use Rattle.perm_rules.specs.Parts.{Context}
 use Rattle.perm_core.specs.Marked.{hides_right}
 use Rattle.perm_core.proofs.HidingCodes.{Before}
-use Rattle.perm_core.proofs.HidingStatements.{exprs-pass, AllEarly, Told, AllTell, block-tells, all-tell}
+use Rattle.perm_tree.proofs.Passing.{exprs-pass}
+use Rattle.perm_core.proofs.HidingStatements.{AllEarly, Told, AllTell, block-tells, all-tell}
 
 -- ---------- the variables of a method ----------
 early-append : (from : ℕ) (vs ws : List VarInfo) → AllEarly from vs → AllEarly from ws → AllEarly from (vs ++ ws)

@@ -1,7 +1,7 @@
 -- Sets of live variables that are declared before a place, and codes that keep them so.
 use Rattle.std.proofs.Common.{◌≡◌, ℕ, zero, suc, ◌+◌, ◌<◌, ◌≤◌, Bool, true, false, List, [], ◌∷◌, Some, refl, sym, subst, arith, ◌⊎◌, inl, inr, add-zero, zero-add}
 use Rattle.std.proofs.lemmas.Bool.{eq-eqb, lt-ltb}
-use Rattle.std.specs.Prelude.{◌||◌, ◌&&◌, not, nat_eq, nat_lt, length, map, slice_get}
+use Rattle.std.specs.Prelude.{◌&&◌, not, nat_eq, nat_lt, length, map, slice_get}
 use Rattle.std.specs.List.{list_any}
 use Rattle.perm_tree.specs.declared.ast.Span.{Span}
 use Rattle.perm_tree.specs.declared.ast.Ty.{Ty}
@@ -9,6 +9,7 @@ use Rattle.perm_tree.specs.declared.unit.VarInfo.{VarInfo}
 use Rattle.perm_tree.specs.Code.{Term, Instruction, Code, End, Give, Do, If, While, Par, Recover}
 use Rattle.perm_tree.specs.CodeOf.{is_tied, listed_if, tied_before}
 use Rattle.perm_tree.specs.Vars.{Vars, none, just, those, plus, minus, meet, some_below}
+use Rattle.perm_tree.proofs.MentionLaws.{or-right, or-parts}
 use Rattle.perm_rules.specs.Effects.{Effect, changed, instruction_effect, then, effect, block_effect, either, both}
 use Rattle.perm_rules.specs.Parts.{Context, if_known}
 use Rattle.perm_rules.specs.Pars.{tied_vars}
@@ -33,14 +34,6 @@ pub record Whole (vars : List VarInfo) (c : Context) (lo hi : ℕ) (a : Code) : 
 and-left : (a b : Bool) → a && b ≡ true → a ≡ true
 and-left true b e = refl
 and-left false b e = absurd (let no : ⊥ = cc e in no)
-
-or-parts : (a b : Bool) → a || b ≡ true → (a ≡ true) ⊎ (b ≡ true)
-or-parts true b e = inl refl
-or-parts false b e = inr e
-
-or-right : (a b : Bool) → b ≡ true → a || b ≡ true
-or-right true b e = refl
-or-right false b e = e
 
 all-three : (a b d : Bool) → a ≡ true → b ≡ true → d ≡ true → a && (b && d) ≡ true
 all-three a b d p q r = rw (p, q, r) refl

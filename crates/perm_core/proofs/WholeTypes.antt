@@ -28,6 +28,7 @@ use Rattle.perm_tree.specs.Resolves.{IsResolved}
 use Rattle.perm_tree.specs.Scopes.{declared_if, declared_at, known_until, block_vars, block_end, braced_vars, else_stmts, rhs_vars, inner_vars, all_inner, param_var, method_vars}
 use Rattle.perm_tree.specs.UnitTables.{Tables}
 use Rattle.perm_tree.specs.WellFormed.{ty_classes, decl_classes, method_classes, member_classes, stmt_classes}
+use Rattle.perm_tree.proofs.ResolvedTypes.{IsResolved-types}
 use Rattle.perm_tree.proofs.TableLaws.{AllMethods, IsTable, HasTable, tables_of-methods, routine-table}
 use Rattle.perm_core.specs.Whole.{is_known_type}
 
@@ -190,7 +191,7 @@ table-known u t d is table =
     let p = u.program in
     let n = length p.classes in
     let found = method-class u t d table.0 in
-    let classes = below-parts n (flat_map member_classes p.classes) (flat_map stmt_classes p.stmts) is.classes in
+    let classes = below-parts n (flat_map member_classes p.classes) (flat_map stmt_classes p.stmts) (IsResolved-types u is) in
     let members = below-at n member_classes p.classes t.class found.0 classes.0 found.1 in
     let methods = (below-parts n (decl_classes found.0.fields) (flat_map method_classes found.0.methods) members).1 in
     let «method» = below-at n method_classes found.0.methods t.«method» d methods found.2 in
@@ -206,4 +207,4 @@ IsResolved-known u at r is here = by_table (IsResolved-table u at r is here)
 
 -- and so are those of all fields
 pub IsResolved-fields : (u : Tables) → IsResolved u → list_all (list_all (is_known_type (code_of u))) (code_of u).classes ≡ true
-IsResolved-fields u is = fields-known u u.program.classes (below-parts (length u.program.classes) (flat_map member_classes u.program.classes) (flat_map stmt_classes u.program.stmts) is.classes).0
+IsResolved-fields u is = fields-known u u.program.classes (below-parts (length u.program.classes) (flat_map member_classes u.program.classes) (flat_map stmt_classes u.program.stmts) (IsResolved-types u is)).0

@@ -9,7 +9,8 @@ use Rattle.perm_tree.specs.declared.ast.Ty.TheVariants.{Long, Bool as Boolean, R
 use Rattle.perm_tree.specs.Code.{Code, Routine, UnitCode, Tie, Lends}
 use Rattle.perm_tree.specs.CodeOf.{is_tied}
 use Rattle.perm_tree.specs.Vars.{Vars, none, just, those, plus, minus}
-use Rattle.perm_perm.specs.Types.{same_shape, fits}
+use Rattle.perm_perm.specs.Types.{fits}
+use Rattle.perm_tree.specs.Shapes.{same_shape}
 use Rattle.perm_rules.specs.declared.ParMode.{ParMode}
 use Rattle.perm_rules.specs.Parts.{Context, type_of, if_both_known}
 use Rattle.perm_rules.specs.Permissions.{call_type}

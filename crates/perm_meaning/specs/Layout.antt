@@ -5,6 +5,7 @@ use Rattle.perm_tree.specs.declared.ast.Shape.TheVariants.{Class, Array}
 use Rattle.perm_tree.specs.declared.ast.Ty.{Ty}
 use Rattle.perm_tree.specs.declared.ast.Ty.TheVariants.{Long, Bool as Boolean, Ref}
 use Rattle.perm_tree.specs.Code.{UnitCode}
+use Rattle.perm_tree.specs.Shapes.{same_shape}
 use Rattle.perm_meaning.specs.Values.{Value, Number, Truth, Null, Reference}
 use Rattle.perm_meaning.specs.Words.{number_in}
 use Rattle.perm_meaning.specs.Objects.{Object, Objects, object_size}
@@ -14,12 +15,6 @@ pub record Spot : Type 0 where
   pub shape : Shape
   pub base : ℕ
   pub len : ℕ
-
--- two shapes are one
-abbrev pub same_shape : Shape → Shape → Bool
-same_shape (Class j) (Class k) = nat_eq j k
-same_shape Array Array = true
-same_shape _ _ = false
 
 -- two spots are one
 abbrev pub same_spot : Spot → Spot → Bool

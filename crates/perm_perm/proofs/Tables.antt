@@ -7,7 +7,8 @@ use Rattle.perm_tree.specs.declared.ast.Ty.{Ty}
 use Rattle.perm_tree.specs.declared.ast.Ty.TheVariants.{Long, Bool as Boolean, Ref}
 use Rattle.perm_perm.specs.Order.{is_at_most}
 use Rattle.perm_perm.specs.Adaptation.{adapted, raised}
-use Rattle.perm_perm.specs.Types.{fits, fits_null, raised_type, same_kind, same_shape, is_too_weak}
+use Rattle.perm_perm.specs.Types.{fits, fits_null, raised_type, same_kind, is_too_weak}
+use Rattle.perm_tree.specs.Shapes.{same_shape}
 
 abbrev row : {A : Type 0} → (Perm → A) → List A
 row f = f Isolated ∷ f Immutable ∷ f Readable ∷ f Writable ∷ []

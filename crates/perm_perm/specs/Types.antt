@@ -1,17 +1,10 @@
 -- When a value of one type may come into a variable of another.
-use Rattle.std.specs.Prelude.{Bool, true, false, ◌&&◌, not, nat_eq}
-use Rattle.perm_tree.specs.declared.ast.Shape.{Shape}
-use Rattle.perm_tree.specs.declared.ast.Shape.TheVariants.{Class, Array}
+use Rattle.std.specs.Prelude.{Bool, true, false, ◌&&◌, not}
 use Rattle.perm_tree.specs.declared.ast.Ty.{Ty}
 use Rattle.perm_tree.specs.declared.ast.Ty.TheVariants.{Long, Bool as Boolean, Ref}
+use Rattle.perm_tree.specs.Shapes.{same_shape}
 use Rattle.perm_perm.specs.Order.{is_at_most}
 use Rattle.perm_perm.specs.Adaptation.{raised}
-
--- both are arrays, or objects of one class
-abbrev pub same_shape : Shape → Shape → Bool
-same_shape (Class k) (Class l) = nat_eq k l
-same_shape Array Array = true
-same_shape _ _ = false
 
 -- both `long`, both `bool`, or references of one shape, whatever their permissions
 abbrev pub same_kind : Ty → Ty → Bool

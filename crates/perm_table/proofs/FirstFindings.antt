@@ -1,18 +1,20 @@
 -- The first of refusals that are met from the last to the first.
-use Rattle.std.proofs.Common.{◌≡◌, ℕ, ◌+◌, ◌-◌, ◌<◌, ◌≤◌, Bool, true, false, List, [], ◌∷◌, ◌++◌, length, Option, Some, None, refl, sym, ap, arith, drop, get_or, ◌∙◌}
-use Rattle.std.proofs.lemmas.Bool.{le-ltb, ltb-false, ltb-true, ne_eqb}
-use Rattle.std.specs.Prelude.{nat_eq, nat_lt, nat_le, ◌||◌, ◌&&◌, not, map, filter, flat_map, cond, if◌then◌else◌}
+use Rattle.std.proofs.Common.{◌≡◌, ℕ, ◌-◌, ◌<◌, ◌≤◌, Bool, List, [], ◌∷◌, ◌++◌, length, Option, Some, None, refl, sym, ap, drop, get_or, ◌∙◌}
+use Rattle.std.specs.Prelude.{not, map, filter, flat_map, Result, IfOk}
 use Rattle.std.proofs.lemmas.List.{map-append}
 use Rattle.std.proofs.lemmas.List.Elements.{filter-append}
+use Rattle.std.proofs.lemmas.Result.{IfOk-weaker}
 use Rattle.perm_tree.specs.declared.ast.Ident.{Ident}
 use Rattle.perm_tree.specs.declared.ast.ClassDecl.{ClassDecl}
 use Rattle.perm_tree.specs.declared.ast.Stmt.{Stmt}
 use Rattle.perm_tree.specs.declared.errors.Limit.TheVariants.{Classes, Fields, Methods, Variables}
+use Rattle.perm_tree.specs.declared.errors.NoMemory.{NoMemory}
 use Rattle.perm_tree.specs.declared.errors.TableError.TheVariants.{UnknownClass}
 use Rattle.perm_tree.specs.declared.unit.MethodTable.{MethodTable}
-use Rattle.perm_tree.specs.Names.{Complaint, class_mentions, class_names, double_at, doubles, earlier, first_of_all, in_class, in_method, is_before, later, made_class, passing}
+use Rattle.perm_tree.specs.Names.{Complaint, class_mentions, class_names, doubles, earlier, first_of_all, in_class, in_method, made_class, passing}
 use Rattle.perm_tree.specs.Places.{Listing}
-use Rattle.perm_table.specs.Findings.{doubles_of, findings, first_before, is_late, unknowns_by}
+use Rattle.perm_table.specs.declared.refusals.Finding.{Finding}
+use Rattle.perm_table.specs.Findings.{findings, first_before, told_if, unknowns_by}
 use Rattle.perm_table.proofs.FirstPlaces.{drop-before}
 
 pub first_before-append : (cs ds : List Complaint) (rest : Option Complaint) → first_before (cs ++ ds) rest ≡ first_before cs (first_before ds rest)
@@ -34,68 +36,30 @@ one-more f g xs at x d rest first more split is some le so_far now =
     ∙ ap (λ cs. first_before cs rest) (sym (split (get_or xs (at - 1) d) (drop at xs)))
     ∙ ap (λ ys. first_before (f ys) rest) (sym (drop-before xs at d some le))
 
-map-cond : {A : Type 0} (f : A → Complaint) (b : Bool) (x : A) (xs : List A) → map f (cond b (x ∷ xs) xs) ≡ map f (cond b (x ∷ []) []) ++ map f xs
-map-cond f true x xs = refl
-map-cond f false x xs = refl
-
-pub doubles_of-split : (i j : Ident) (is : List Ident) → doubles_of i (j ∷ is) ≡ doubles_of i (j ∷ []) ++ doubles_of i is
-doubles_of-split i j is = map-cond (λ k. double_at (later i k)) (nat_eq i.name j.name) j (filter (λ k. nat_eq i.name k.name) is)
-
--- what stands behind a refusal isn't the first
-not-before : (c b : Complaint) → b.at.start < c.at.start → is_before c b ≡ false
-not-before c b behind =
-    let less : nat_lt c.at.start b.at.start ≡ false = le-ltb c.at.start b.at.start (omega arith) in
-    let equal : nat_eq c.at.start b.at.start ≡ false = ne_eqb c.at.start b.at.start (λ e. absurd (omega arith)) in
-    λ j. less j || (equal j && nat_le c.rank b.rank)
-
-later-behind : (i j : Ident) (n : ℕ) → n < i.span.start → n < (later i j).span.start
-later-behind i j n behind = cases (nat_lt j.span.start i.span.start) refl
-  where
-    cases : (b : Bool) → nat_lt j.span.start i.span.start ≡ b → n < (if b then i else j).span.start
-    cases true e = behind
-    cases false e = let le = ltb-false j.span.start i.span.start e in omega arith
-
-late-one : (i j : Ident) (b : Complaint) → b.at.start < i.span.start → earlier (double_at (later i j)) (Some b) ≡ b
-late-one i j b behind = ap (λ t. if t then double_at (later i j) else b) (not-before (double_at (later i j)) b (later-behind i j b.at.start behind))
-
-late-all : (i : Ident) (is : List Ident) (b : Complaint) → b.at.start < i.span.start → first_before (map (λ j. double_at (later i j)) is) (Some b) ≡ Some b
-late-all i [] b behind = refl
-late-all i (j ∷ is) b behind = ap (λ o. Some (earlier (double_at (later i j)) o)) (late-all i is b behind) ∙ ap Some (late-one i j b behind)
-
--- a name that stands behind what was found is refused too late
-pub late-none : (i : Ident) (is : List Ident) (rest : Option Complaint) → is_late i rest ≡ true → rest ≡ first_before (doubles_of i is) rest
-late-none i is None e = absurd (let no : ⊥ = cc e in no)
-late-none i is (Some b) e = sym (late-all i (filter (λ j. nat_eq i.name j.name) is) b (ltb-true b.at.start i.span.start e))
-
--- one more at the front of a group
-pub one-more-name : (names : List Ident) (at : ℕ) (d : Ident) (rest first more : Option Complaint) → 0 < at → at ≤ length names
-    → first ≡ first_before (doubles (drop at names)) rest → more ≡ first_before (doubles_of (get_or names (at - 1) d) (drop (at - 1 + 1) names)) first
-    → more ≡ first_before (doubles (drop (at - 1) names)) rest
-one-more-name names at d rest first more some le so_far now =
-    let next : at - 1 + 1 ≡ at = omega arith in
-    now
-    ∙ (λ j. first_before (doubles_of (get_or names (at - 1) d) (drop (next j) names)) (so_far j))
-    ∙ sym (first_before-append (doubles_of (get_or names (at - 1) d) (drop at names)) (doubles (drop at names)) rest)
-    ∙ ap (λ is. first_before (doubles is) rest) (sym (drop-before names at d some le))
-
 -- ---------- groups ----------
+-- where a last call's answer is handed on, what it tells is
+told-on : (r : Result (Option Finding) NoMemory) (before now : Option Complaint) → before ≡ now → IfOk r (λ f. told_if f ≡ before) → IfOk r (λ f. told_if f ≡ now)
+told-on r before now same told = IfOk-weaker r (λ f. told_if f ≡ before) (λ f. told_if f ≡ now) (λ f is. is ∙ same) told
+
 -- the variables of a method
-pub method-findings : (names ns ms : List Ident) (rest past all : Option Complaint) → ns ≡ names → ms ≡ names
-    → past ≡ first_before (passing Variables ns) rest → all ≡ first_before (doubles ms) past → all ≡ first_before (doubles names ++ passing Variables names) rest
-method-findings names ns ms rest past all n m before now =
-    now ∙ (λ j. first_before (doubles (m j)) (before j)) ∙ ap (λ is. first_before (doubles names) (first_before (passing Variables is) rest)) n ∙ sym (first_before-append (doubles names) (passing Variables names) rest)
+pub method-findings : (names ns ms : List Ident) (rest past : Option Complaint) (r : Result (Option Finding) NoMemory) → ns ≡ names → ms ≡ names → past ≡ first_before (passing Variables ns) rest
+    → IfOk r (λ f. told_if f ≡ first_before (doubles ms) past) → IfOk r (λ f. told_if f ≡ first_before (doubles names ++ passing Variables names) rest)
+method-findings names ns ms rest past r n m before =
+    told-on r (first_before (doubles ms) past) (first_before (doubles names ++ passing Variables names) rest)
+    ((λ j. first_before (doubles (m j)) (before j)) ∙ ap (λ is. first_before (doubles names) (first_before (passing Variables is) rest)) n ∙ sym (first_before-append (doubles names) (passing Variables names) rest))
 
 -- the members of a class
-pub class-findings : (fields methods fs ms both : List Ident) (rest past_methods past_fields all : Option Complaint) → fs ≡ fields → ms ≡ methods → both ≡ fields ++ methods
-    → past_methods ≡ first_before (passing Methods ms) rest → past_fields ≡ first_before (passing Fields fs) past_methods → all ≡ first_before (doubles both) past_fields
-    → all ≡ first_before (doubles (fields ++ methods) ++ (passing Fields fields ++ passing Methods methods)) rest
-class-findings fields methods fs ms both rest past_methods past_fields all f m b in_methods in_fields now =
-    now
-    ∙ (λ j. first_before (doubles (b j)) (in_fields j))
+pub class-findings : (fields methods fs ms both : List Ident) (rest past_methods past_fields : Option Complaint) (r : Result (Option Finding) NoMemory) → fs ≡ fields → ms ≡ methods → both ≡ fields ++ methods
+    → past_methods ≡ first_before (passing Methods ms) rest → past_fields ≡ first_before (passing Fields fs) past_methods
+    → IfOk r (λ f. told_if f ≡ first_before (doubles both) past_fields) → IfOk r (λ f. told_if f ≡ first_before (doubles (fields ++ methods) ++ (passing Fields fields ++ passing Methods methods)) rest)
+class-findings fields methods fs ms both rest past_methods past_fields r f m b in_methods in_fields =
+    told-on r (first_before (doubles both) past_fields) (first_before (doubles (fields ++ methods) ++ (passing Fields fields ++ passing Methods methods)) rest) (
+    (λ j. first_before (doubles (b j)) (in_fields j))
     ∙ (λ j. first_before (doubles (fields ++ methods)) (first_before (passing Fields (f j)) (in_methods j)))
     ∙ ap (λ is. first_before (doubles (fields ++ methods)) (first_before (passing Fields fields) (first_before (passing Methods is) rest))) m
     ∙ ap (first_before (doubles (fields ++ methods))) (sym (first_before-append (passing Fields fields) (passing Methods methods) rest))
     ∙ sym (first_before-append (doubles (fields ++ methods)) (passing Fields fields ++ passing Methods methods) rest)
+    )
 
 unknowns_by-append : (known : ℕ → Bool) (is js : List Ident) → unknowns_by known (is ++ js) ≡ unknowns_by known is ++ unknowns_by known js
 unknowns_by-append known is js = ap (map unknown) (filter-append (λ i. not (known i.name)) is js) ∙ map-append unknown (filter (λ i. not (known i.name)) is) (filter (λ i. not (known i.name)) js)
@@ -116,17 +80,17 @@ unknown-findings known p stmts mentions made unknown s m in_stmts in_mentions =
     ∙ ap (λ cs. first_before cs None) (sym (unknowns_by-append known p.mentions made_in))
 
 -- all groups one after another
-pub all-findings : (p : Listing) (tables : List MethodTable) (classes : List ClassDecl) (ns ms : List Ident) (unknown variables members past all : Option Complaint)
+pub all-findings : (p : Listing) (tables : List MethodTable) (classes : List ClassDecl) (ns ms : List Ident) (unknown variables members past : Option Complaint) (r : Result (Option Finding) NoMemory)
     → classes ≡ p.classes → ns ≡ class_names p → ms ≡ class_names p
     → variables ≡ first_before (flat_map in_method tables) unknown
     → members ≡ first_before (flat_map in_class classes) variables
     → past ≡ first_before (passing Classes ns) members
-    → all ≡ first_before (doubles ms) past
-    → all ≡ first_before (findings p tables) unknown
-all-findings p tables classes ns ms unknown variables members past all c n n' in_methods in_classes in_limit now =
+    → IfOk r (λ f. told_if f ≡ first_before (doubles ms) past)
+    → IfOk r (λ f. told_if f ≡ first_before (findings p tables) unknown)
+all-findings p tables classes ns ms unknown variables members past r c n n' in_methods in_classes in_limit =
     let names = class_names p in
     let behind2 = flat_map in_method tables in
     let behind1 = flat_map in_class p.classes ++ behind2 in
     let members_is : members ≡ first_before behind1 unknown = in_classes ∙ (λ j. first_before (flat_map in_class (c j)) (in_methods j)) ∙ sym (first_before-append (flat_map in_class p.classes) behind2 unknown) in
     let past_is : past ≡ first_before (passing Classes names ++ behind1) unknown = in_limit ∙ (λ j. first_before (passing Classes (n j)) (members_is j)) ∙ sym (first_before-append (passing Classes names) behind1 unknown) in
-    now ∙ (λ j. first_before (doubles (n' j)) (past_is j)) ∙ sym (first_before-append (doubles names) (passing Classes names ++ behind1) unknown)
+    told-on r (first_before (doubles ms) past) (first_before (findings p tables) unknown) ((λ j. first_before (doubles (n' j)) (past_is j)) ∙ sym (first_before-append (doubles names) (passing Classes names ++ behind1) unknown))

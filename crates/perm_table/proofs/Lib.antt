@@ -1,3 +1,4 @@
+pub mod Doubles
 pub mod FirstFindings
 pub mod FirstPlaces
 pub mod Maps

@@ -3,17 +3,14 @@ use Rattle.std.proofs.Common.{◌≡◌, ℕ, zero, suc, ◌+◌, ◌<◌, List,
 use Rattle.std.specs.Prelude.{map, slice_get, slice_index}
 use Rattle.std.proofs.Math.ListN.{get_or-append}
 use Rattle.perm_tree.specs.declared.ast.Block.{Block}
-use Rattle.perm_tree.specs.declared.ast.ClassDecl.{ClassDecl}
-use Rattle.perm_tree.specs.declared.ast.Method.{Method}
 use Rattle.perm_tree.specs.declared.ast.Rhs.{Rhs}
 use Rattle.perm_tree.specs.declared.ast.Rhs.TheVariants.{Value, Field, TakeField, Item, New, NewArray, Call as CallRhs, Recover}
 use Rattle.perm_tree.specs.declared.ast.Stmt.{Stmt}
 use Rattle.perm_tree.specs.declared.ast.StmtKind.{StmtKind}
 use Rattle.perm_tree.specs.declared.ast.StmtKind.TheVariants.{Declare, Assign, SetField, SetItem, Call as CallStmt, Print, If, While, Par}
-use Rattle.perm_tree.specs.declared.unit.MethodTable.{MethodTable}
 use Rattle.perm_tree.specs.declared.unit.VarInfo.{VarInfo}
 use Rattle.perm_tree.specs.Places.{AllBelow, ElseBelow, RhsPlaced, KindPlaced, IsPlaced, Listing}
-use Rattle.perm_tree.specs.Scopes.{all_inner, block_end, block_vars, braced_vars, class_tables, declared_at, declared_by, declared_if, else_stmts, end_if, inner_vars, known_until, method_vars, rhs_vars, tables_from}
+use Rattle.perm_tree.specs.Scopes.{all_inner, block_end, block_vars, braced_vars, declared_at, declared_by, declared_if, else_stmts, end_if, inner_vars, known_until, rhs_vars}
 use Rattle.perm_tree.proofs.Entries.{entries_of-at}
 
 -- ---------- places ----------
@@ -89,27 +86,3 @@ pub block_end-step : (stmts : List Stmt) (places : List ℕ) (i end : ℕ) (s : 
     → block_end stmts end (drop i places) ≡ block_end stmts 0 places → block_end stmts s.span.end (drop (i + 1) places) ≡ block_end stmts 0 places
 block_end-step stmts places i end s within here so_far =
     ap (λ o. block_end stmts (end_if end o) (drop (i + 1) places)) (sym here) ∙ ap (block_end stmts end) (sym (drop-at places i within)) ∙ so_far
-
--- the table of one method more
-pub class_tables-step : (stmts : List Stmt) (inner : List (List VarInfo)) (class : ℕ) (methods : List Method) (at : ℕ) (start old new : List MethodTable) (d : Method) (vars : List VarInfo)
-    → at < length methods → d ≡ get_or methods at d → old ++ class_tables stmts inner class at (drop at methods) ≡ start ++ class_tables stmts inner class 0 methods
-    → vars ≡ method_vars stmts inner class d → new ≡ old ++ record { class = class; «method» = at; vars = vars } ∷ []
-    → new ++ class_tables stmts inner class (at + 1) (drop (at + 1) methods) ≡ start ++ class_tables stmts inner class 0 methods
-class_tables-step stmts inner class methods at start old new d vars within is so_far made adds =
-    let rest = class_tables stmts inner class (at + 1) (drop (at + 1) methods) in
-    let there : drop at methods ≡ d ∷ drop (at + 1) methods = drop-cons methods at d within ∙ (λ j. sym is j ∷ drop (sym (add-one at) j) methods) in
-    let first : class_tables stmts inner class at (drop at methods) ≡ record { class = class; «method» = at; vars = vars } ∷ rest =
-    ap (class_tables stmts inner class at) there ∙ (λ j. record { class = class; «method» = at; vars = sym made j } ∷ class_tables stmts inner class (sym (add-one at) j) (drop (at + 1) methods)) in
-    ap (λ ts. ts ++ rest) adds ∙ append_assoc old (record { class = class; «method» = at; vars = vars } ∷ []) rest ∙ ap (λ ts. old ++ ts) (sym first) ∙ so_far
-
--- the tables of one class more
-pub tables_from-step : (stmts : List Stmt) (inner : List (List VarInfo)) (classes : List ClassDecl) (at : ℕ) (start old new : List MethodTable) (c : ClassDecl)
-    → at < length classes → c ≡ get_or classes at c → old ++ tables_from stmts inner at (drop at classes) ≡ start
-    → new ≡ old ++ class_tables stmts inner at 0 c.methods
-    → new ++ tables_from stmts inner (at + 1) (drop (at + 1) classes) ≡ start
-tables_from-step stmts inner classes at start old new c within is so_far adds =
-    let rest = tables_from stmts inner (at + 1) (drop (at + 1) classes) in
-    let there : drop at classes ≡ c ∷ drop (at + 1) classes = drop-cons classes at c within ∙ (λ j. sym is j ∷ drop (sym (add-one at) j) classes) in
-    let first : tables_from stmts inner at (drop at classes) ≡ class_tables stmts inner at 0 c.methods ++ rest =
-    ap (tables_from stmts inner at) there ∙ (λ j. class_tables stmts inner at 0 c.methods ++ tables_from stmts inner (sym (add-one at) j) (drop (at + 1) classes)) in
-    ap (λ ts. ts ++ rest) adds ∙ append_assoc old (class_tables stmts inner at 0 c.methods) rest ∙ ap (λ ts. old ++ ts) (sym first) ∙ so_far

@@ -1,5 +1,5 @@
 -- Refusals at names, met from the last to the first.
-use Rattle.std.specs.Prelude.{ℕ, Bool, false, not, nat_eq, nat_lt, List, [], ◌∷◌, ◌++◌, map, filter, flat_map, Option, Some, None}
+use Rattle.std.specs.Prelude.{ℕ, Bool, not, nat_eq, nat_le, List, [], ◌∷◌, ◌++◌, map, filter, flat_map, Option, Some, None, if◌then◌else◌}
 use Rattle.perm_tree.specs.declared.ast.Ident.{Ident}
 use Rattle.perm_tree.specs.declared.ast.Rhs.{Rhs}
 use Rattle.perm_tree.specs.declared.ast.Rhs.TheVariants.{New}
@@ -24,14 +24,24 @@ abbrev pub first_before : List Complaint → Option Complaint → Option Complai
 first_before [] rest = rest
 first_before (c ∷ cs) rest = Some (earlier c (first_before cs rest))
 
--- a name stands behind what was found
-abbrev pub is_late : Ident → Option Complaint → Bool
-is_late i None = false
-is_late i (Some c) = nat_lt c.at.start i.span.start
-
 -- what is refused of a name and those behind it that equal it
 abbrev pub doubles_of : Ident → List Ident → List Complaint
 doubles_of i is = map (λ j. double_at (later i j)) (filter (λ j. nat_eq i.name j.name) is)
+
+-- of a name and another one the one that comes first in the text
+abbrev pub sooner : Ident → Option Ident → Ident
+sooner i None = i
+sooner i (Some j) = if nat_le i.span.start j.span.start then i else j
+
+-- of the names with a number the one that comes first in the text
+abbrev pub first_named : ℕ → List Ident → Option Ident
+first_named n [] = None
+first_named n (i ∷ is) = if nat_eq i.name n then Some (sooner i (first_named n is)) else first_named n is
+
+-- what is refused of a name and another one that equals it
+abbrev pub double_with : Ident → Option Ident → List Complaint
+double_with i None = []
+double_with i (Some j) = double_at (later i j) ∷ []
 
 -- the name behind `new` on a right side
 abbrev pub made_by : Rhs → List Ident

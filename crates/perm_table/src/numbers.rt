@@ -2,7 +2,8 @@
 
 ghost use Rattle.std.specs.Prelude.{◌≡◌, ℕ, IfOk, length, map, nat_eq};
 ghost use Rattle.std.specs.List.{position_or_len};
-ghost use Rattle.perm_table.specs.Numbers.{knows_in, number_in, renamed_class, renamed_decl, renamed_kind, renamed_mention, renamed_method, renamed_shape, renamed_stmt, renamed_ty};
+ghost use Rattle.perm_tree.specs.Resolves.{renamed_class, renamed_decl, renamed_kind, renamed_mention, renamed_method, renamed_shape, renamed_stmt, renamed_ty};
+ghost use Rattle.perm_table.specs.Numbers.{knows_in, number_in};
 
 use indexmap::IndexMap;
 use perm_tree::ast::{ClassDecl, FieldDecl, Ident, Method, Shape, Stmt, StmtKind, Ty};

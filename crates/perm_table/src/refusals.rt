@@ -1,11 +1,12 @@
-//! The first refusal at a name. Refusals are met from the last to the first, so that those that come too late are passed over.
+//! The first refusal at a name. Names are met from the last to the first, and what is found of one comes before what was found behind it.
 
-ghost use Rattle.std.specs.Prelude.{◌≡◌, ◌≤◌, [], ◌∷◌, None, IfOk, map, flat_map, length, drop, option_to_list};
+ghost use Rattle.std.specs.Prelude.{◌≡◌, [], ◌∷◌, None, IfOk, map, flat_map, option_to_list};
 ghost use Rattle.perm_tree.specs.Names.{class_mentions, double_at, doubles, earlier, field_names, in_class, in_method, is_before, later, made_class, method_names, most, passing, var_names};
 ghost use Rattle.perm_table.specs.Numbers.{knows_in};
-ghost use Rattle.perm_table.specs.Findings.{doubles_of, findings, first_before, is_late, made_by, told, told_if, unknowns_by};
+ghost use Rattle.perm_table.specs.Findings.{double_with, findings, first_before, made_by, sooner, told, told_if, unknowns_by};
 
 use crate::numbers::ClassNumbers;
+use indexmap::IndexMap;
 use perm_tree::ast::{ClassDecl, Ident, Rhs, Span, Stmt, StmtKind};
 use perm_tree::errors::{Limit, NoMemory, TableError};
 use perm_tree::program::Program;
@@ -40,7 +41,7 @@ fn earlier(a: Finding, rest: Option<Finding>) -> Finding
 fn later(i: Ident, j: Ident) -> Ident
     ensures { result ≡ later i j }
 {
-    if j.span.start < i.span.start { i } else { j }
+    if i.span.start < j.span.start { j } else { i }
 }
 
 fn double_at(i: Ident) -> Finding
@@ -53,55 +54,45 @@ fn double_at(i: Ident) -> Finding
     }
 }
 
-/// Whether what was found comes before all that a name can be refused for.
-fn is_late(i: Ident, first: Option<Finding>) -> bool
-    ensures { result ≡ is_late i (told_if first) }
+/// Of a name and another one the one that comes first in the text.
+fn sooner(i: Ident, other: Option<Ident>) -> Ident
+    ensures { result ≡ sooner i other }
 {
-    match first {
-        None => false,
-        Some(found) => found.at.start < i.span.start,
+    match other {
+        None => i,
+        Some(j) => { if i.span.start <= j.span.start { i } else { j } }
     }
 }
 
-/// Compares a name with one behind it.
-fn double_of(i: Ident, other: Ident, rest: Option<Finding>) -> Option<Finding>
-    ensures { told_if result ≡ first_before (doubles_of i (other ∷ [])) (told_if rest) }
+/// Refuses the later one of a name and another one that equals it.
+fn double_with(i: Ident, other: Option<Ident>, rest: Option<Finding>) -> Option<Finding>
+    ensures { told_if result ≡ first_before (double_with i other) (told_if rest) }
 {
-    if i.name == other.name {
-        return Some(earlier(double_at(later(i, other)), rest));
+    match other {
+        None => rest,
+        Some(j) => Some(earlier(double_at(later(i, j)), rest)),
     }
-    rest
 }
 
-/// Compares a name with those from a place on.
-fn doubles_of(i: Ident, names: &[Ident], from: usize, rest: Option<Finding>) -> Option<Finding>
-    requires { from ≤ length names.now }
-    ensures { told_if result ≡ first_before (doubles_of i (drop from names.now)) (told_if rest) }
-{
-    if is_late(i, rest) {
-        return rest;
-    }
-    let mut first = rest;
-    let mut at = names.len();
-    'names: while at > from {
-        at -= 1;
-        first = double_of(i, names[at], first);
-    }
-    first
-}
-
-/// Compares each two names of a group.
-fn doubles(names: &[Ident], rest: Option<Finding>) -> Option<Finding>
-    ensures { told_if result ≡ first_before (doubles names.now) (told_if rest) }
+/// Looks for equal names in a group. A map has of the names met so far that are equal the one that comes first in the text.
+fn doubles(
+    alloc: Global,
+    names: &[Ident],
+    rest: Option<Finding>,
+) -> Result<Option<Finding>, NoMemory>
+    ensures { IfOk result (λ f. told_if f ≡ first_before (doubles names.now) (told_if rest)) }
 {
     let mut first = rest;
+    let mut firsts = IndexMap::new(alloc);
     let mut at = names.len();
     'names: while at > 0 {
         at -= 1;
         let name = names[at];
-        first = doubles_of(name, names, at + 1, first);
+        let equal = firsts.get(&name.name).copied();
+        first = double_with(name, equal, first);
+        firsts.insert(name.name, sooner(name, equal))?;
     }
-    first
+    Ok(first)
 }
 
 fn most(limit: Limit) -> usize
@@ -186,7 +177,7 @@ fn in_class(
     let past_methods = passing(Limit::Methods, methods.as_slice(), rest);
     let past_fields = passing(Limit::Fields, members.as_slice(), past_methods);
     members.extend_from_slice(methods.as_slice())?;
-    Ok(doubles(members.as_slice(), past_fields))
+    doubles(alloc, members.as_slice(), past_fields)
 }
 
 /// The variables of a method.
@@ -199,7 +190,7 @@ fn in_method(
 {
     let names = var_names(alloc, table)?;
     let past = passing(Limit::Variables, names.as_slice(), rest);
-    Ok(doubles(names.as_slice(), past))
+    doubles(alloc, names.as_slice(), past)
 }
 
 fn in_classes(
@@ -322,5 +313,5 @@ pub fn first_finding(
     let members = in_classes(alloc, program.classes(), variables)?;
     let names = class_names(alloc, program.classes())?;
     let past = passing(Limit::Classes, names.as_slice(), members);
-    Ok(doubles(names.as_slice(), past))
+    doubles(alloc, names.as_slice(), past)
 }

@@ -10,7 +10,7 @@ use Rattle.perm_tree.specs.declared.ast.Ty.{Ty}
 use Rattle.perm_tree.specs.declared.ast.Ty.TheVariants.{Long, Bool as Boolean, Ref}
 use Rattle.perm_tree.specs.declared.ast.Ident.{Ident}
 use Rattle.perm_tree.specs.declared.ast.FieldDecl.{FieldDecl}
-use Rattle.perm_tree.specs.declared.ast.UnaryOp.TheVariants.{Minus as Negative, Not}
+use Rattle.perm_tree.specs.declared.ast.UnaryOp.TheVariants.{Minus as Negative}
 use Rattle.perm_tree.specs.declared.ast.BinaryOp.{BinaryOp}
 use Rattle.perm_tree.specs.declared.ast.BinaryOp.TheVariants.{Mul, Div, Rem, Plus, Minus, Less, AtMost, Greater, AtLeast, Equal, Differs, And, Or}
 use Rattle.perm_tree.specs.declared.ast.Expr.{Expr}
@@ -217,9 +217,6 @@ var x = name x >>= λ i. push_expr (Var i)
 
 abbrev pub negative : Writes ℕ → Writes ℕ
 negative e = say "-" >> e >>= λ a. push_expr (Unary Negative a)
-
-abbrev pub isnt : Writes ℕ → Writes ℕ
-isnt e = say "!" >> e >>= λ a. push_expr (Unary Not a)
 
 abbrev sign : BinaryOp → String
 sign Mul = " * "

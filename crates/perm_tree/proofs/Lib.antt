@@ -10,6 +10,7 @@ pub mod MentionLaws
 pub mod NameRows
 pub mod Nested
 pub mod ParPrograms
+pub mod Passing
 pub mod PrintFits
 pub mod PrintMembers
 pub mod PrintStacks

@@ -7,15 +7,15 @@ use Rattle.perm_tree.specs.Mentions.{any_in_argument, any_in_option, term_mentio
 use Rattle.perm_tree.specs.Vars.{Vars, none, just, those, plus, minus, IsWithin}
 
 -- ---------- sets ----------
-or-left : (a b : Bool) → a ≡ true → a || b ≡ true
+pub or-left : (a b : Bool) → a ≡ true → a || b ≡ true
 or-left true b e = refl
 or-left false b e = absurd (let no : ⊥ = cc e in no)
 
-or-right : (a b : Bool) → b ≡ true → a || b ≡ true
+pub or-right : (a b : Bool) → b ≡ true → a || b ≡ true
 or-right true b e = refl
 or-right false b e = e
 
-or-parts : (a b : Bool) → a || b ≡ true → (a ≡ true) ⊎ (b ≡ true)
+pub or-parts : (a b : Bool) → a || b ≡ true → (a ≡ true) ⊎ (b ≡ true)
 or-parts true b e = inl refl
 or-parts false b e = inr e
 

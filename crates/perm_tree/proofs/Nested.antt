@@ -6,13 +6,8 @@ use Rattle.std.proofs.Math.ListN.{get_or-append}
 use Rattle.std.proofs.Math.Seq.{get_or-append_seam}
 use Rattle.std.proofs.lemmas.List.{map-append}
 use Rattle.std.proofs.lemmas.List.Elements.{All-nil, All-cons, All-append}
-use Rattle.perm_tree.specs.declared.ast.Arg.{Arg}
-use Rattle.perm_tree.specs.declared.ast.Arg.TheVariants.{Expr as Plain, Consume}
 use Rattle.perm_tree.specs.declared.ast.Block.{Block}
-use Rattle.perm_tree.specs.declared.ast.Call.{Call}
 use Rattle.perm_tree.specs.declared.ast.ClassDecl.{ClassDecl}
-use Rattle.perm_tree.specs.declared.ast.Expr.{Expr}
-use Rattle.perm_tree.specs.declared.ast.Expr.TheVariants.{Number, Bool as Truth, Null, Var, Unary, Binary}
 use Rattle.perm_tree.specs.declared.ast.FieldDecl.{FieldDecl}
 use Rattle.perm_tree.specs.declared.ast.Method.{Method}
 use Rattle.perm_tree.specs.declared.ast.Rhs.{Rhs}
@@ -27,63 +22,10 @@ use Rattle.perm_tree.specs.Nesting.{AreNested, AllNested}
 use Rattle.perm_tree.specs.Places.{Listing, IsPlaced, AllBelow, ElseBelow, RhsPlaced, KindPlaced, MethodPlaced, ClassPlaced}
 use Rattle.perm_tree.specs.Resolves.{IsResolved}
 use Rattle.perm_tree.specs.Scopes.{declared_by, declared_if, known_until, end_if, block_end, block_vars, braced_vars, else_stmts, rhs_vars, inner_vars, all_inner, this_var, param_var, method_vars, class_tables, tables_from}
-use Rattle.perm_tree.specs.TextOrder.{Mark, names, ends, IsRising, Marks, expr_marks, all_expr_marks, marks_at, arg_marks, args_marks, call_marks, block_marks, rhs_marks, kind_marks, stmt_marks, all_stmt_marks, params_marks, method_marks, AreRising}
+use Rattle.perm_tree.specs.TextOrder.{Mark, names, ends, IsRising, Marks, all_expr_marks, marks_at, arg_marks, block_marks, rhs_marks, kind_marks, stmt_marks, all_stmt_marks, params_marks, method_marks, AreRising}
 use Rattle.perm_tree.specs.UnitTables.{Tables}
+use Rattle.perm_tree.proofs.Passing.{rising-less, AllPass, past-name, pass-at, exprs-pass, arg-passes, call-passes}
 use Rattle.perm_tree.proofs.ScopeRows.{Laid, Opens, laid-nil, laid-more, laid-append, laid-cons, laid-nested, opens-room, opens-laid}
-
--- ---------- marks of expressions ----------
--- marks that rise from a place rise from an earlier one
-rising-less : (lo hi : ℕ) (ms : List Mark) → lo ≤ hi → IsRising hi ms → IsRising lo ms
-rising-less lo hi [] less rise = tt
-rising-less lo hi (names i ∷ ms) less rise = (omega arith, rise.1)
-rising-less lo hi (ends at ∷ ms) less rise = (omega arith, rise.1)
-
--- what stands behind a name rises from where the name may begin
-past-name : (lo start : ℕ) (ms : List Mark) → lo ≤ start → IsRising (suc start) ms → IsRising lo ms
-past-name lo start ms low rise = rising-less lo (suc start) ms (omega arith) rise
-
--- what stands behind some marks rises from the same place
-abbrev Passes : Marks → Type 0
-Passes m = (lo : ℕ) (rest : List Mark) → IsRising lo (m rest) → IsRising lo rest
-
-abbrev AllPass : List Marks → Type 0
-AllPass [] = Unit {0}
-AllPass (m ∷ ms) = Passes m × AllPass ms
-
-pass-at : (ms : List Marks) (k : ℕ) → AllPass ms → Passes (get_or ms k (λ ms. ms))
-pass-at [] k all lo rest rise = rise
-pass-at (m ∷ ms) zero all lo rest rise = all.0 lo rest rise
-pass-at (m ∷ ms) (suc k) all lo rest rise = pass-at ms k all.1 lo rest rise
-
-pass-append : (ms ns : List Marks) → AllPass ms → AllPass ns → AllPass (ms ++ ns)
-pass-append [] ns all more = more
-pass-append (m ∷ ms) ns all more = (all.0, pass-append ms ns all.1 more)
-
-expr-passes : (before : List Marks) (e : Expr) → AllPass before → Passes (expr_marks before e)
-expr-passes before (Number n) all lo rest rise = rise
-expr-passes before (Truth b) all lo rest rise = rise
-expr-passes before Null all lo rest rise = rise
-expr-passes before (Var x) all lo rest rise = past-name lo x.span.start rest rise.0 rise.1
-expr-passes before (Unary op a) all lo rest rise = pass-at before a all lo rest rise
-expr-passes before (Binary op a b) all lo rest rise = pass-at before b all lo rest (pass-at before a all lo (get_or before b (λ ms. ms) rest) rise)
-
-exprs-pass : (before : List Marks) (es : List Expr) → AllPass before → AllPass (entries_from expr_marks before es)
-exprs-pass before [] all = all
-exprs-pass before (e ∷ es) all = exprs-pass (before ++ expr_marks before e ∷ []) es (pass-append before (expr_marks before e ∷ []) all (expr-passes before e all, tt))
-
-module _ (exprs : List Marks) (pass : AllPass exprs) where
-  arg-passes : (a : Arg) → Passes (arg_marks exprs a)
-  arg-passes (Plain e) lo rest rise = pass-at exprs e pass lo rest rise
-  arg-passes (Consume y) lo rest rise = past-name lo y.span.start rest rise.0 rise.1
-
-  args-pass : (list : List Arg) → Passes (args_marks exprs list)
-  args-pass [] lo rest rise = rise
-  args-pass (a ∷ list) lo rest rise = args-pass list lo rest (arg-passes a lo (args_marks exprs list rest) rise)
-
-  call-passes : (c : Call) → Passes (call_marks exprs c)
-  call-passes c lo rest rise =
-      let on : IsRising lo (names c.«method» ∷ args_marks exprs c.args rest) = past-name lo c.on.span.start (names c.«method» ∷ args_marks exprs c.args rest) rise.0 rise.1 in
-      args-pass c.args lo rest (past-name lo c.«method».span.start (args_marks exprs c.args rest) on.0 on.1)
 
 -- two names
 past-two : (lo a b : ℕ) (ms : List Mark) → lo ≤ a → suc a ≤ b → IsRising (suc b) ms → IsRising lo ms
@@ -171,8 +113,8 @@ module _ (exprs : List Marks) (pass : AllPass exprs) (stmts : List Stmt) where
     rhs-told count lo head end (Field y f) rest placed rise = plain lo end rest (past-two lo y.span.start f.span.start (ends end ∷ rest) rise.0 rise.1.0 rise.1.1)
     rhs-told count lo head end (TakeField y f) rest placed rise = plain lo end rest (past-two lo y.span.start f.span.start (ends end ∷ rest) rise.0 rise.1.0 rise.1.1)
     rhs-told count lo head end (Item y e) rest placed rise =
-        plain lo end rest (pass-at exprs e pass lo (ends end ∷ rest) (past-name lo y.span.start (marks_at exprs e (ends end ∷ rest)) rise.0 rise.1))
-    rhs-told count lo head end (New c) rest placed rise = plain lo end rest (past-name lo c.span.start (ends end ∷ rest) rise.0 rise.1)
+        plain lo end rest (pass-at exprs e pass lo (ends end ∷ rest) (past-name y lo (marks_at exprs e (ends end ∷ rest)) rise))
+    rhs-told count lo head end (New c) rest placed rise = plain lo end rest (past-name c lo (ends end ∷ rest) rise)
     rhs-told count lo head end (NewArray e) rest placed rise = plain lo end rest (pass-at exprs e pass lo (ends end ∷ rest) rise)
     rhs-told count lo head end (CallRhs c) rest placed rise = plain lo end rest (call-passes exprs pass c lo (ends end ∷ rest) rise)
     rhs-told count lo head end (Recover b w give) rest placed rise =
@@ -198,7 +140,7 @@ module _ (exprs : List Marks) (pass : AllPass exprs) (stmts : List Stmt) where
     kind-told count lo head end (SetField y f a) rest placed rise =
         plain lo end rest (arg-passes exprs pass a lo (ends end ∷ rest) (past-two lo y.span.start f.span.start (arg_marks exprs a (ends end ∷ rest)) rise.0 rise.1.0 rise.1.1))
     kind-told count lo head end (SetItem y i e) rest placed rise =
-        let on : IsRising lo (marks_at exprs i (marks_at exprs e (ends end ∷ rest))) = past-name lo y.span.start (marks_at exprs i (marks_at exprs e (ends end ∷ rest))) rise.0 rise.1 in
+        let on : IsRising lo (marks_at exprs i (marks_at exprs e (ends end ∷ rest))) = past-name y lo (marks_at exprs i (marks_at exprs e (ends end ∷ rest))) rise in
         plain lo end rest (pass-at exprs e pass lo (ends end ∷ rest) (pass-at exprs i pass lo (marks_at exprs e (ends end ∷ rest)) on))
     kind-told count lo head end (CallStmt c) rest placed rise = plain lo end rest (call-passes exprs pass c lo (ends end ∷ rest) rise)
     kind-told count lo head end (Print e) rest placed rise = plain lo end rest (pass-at exprs e pass lo (ends end ∷ rest) rise)

@@ -1,7 +1,6 @@
 -- The members of a class: their parts, their places and their texts.
 use Rattle.std.proofs.Common.{◌≡◌, ◌∙◌, ap, sym, refl, subst, ℕ, zero, suc, ◌+◌, ◌<◌, List, [], ◌∷◌, ◌++◌, length, map, append_assoc, append-nil, arith, Bool, true, false, Some, Result, Ok, Err}
 use Rattle.std.specs.Prelude.{OnOk, codes, get_or, nat_le, slice_get, take, if◌then◌else◌}
-use Rattle.std.proofs.lemmas.Option.{slice_get_read}
 use mathlib.Core.List.{map-append}
 use Rattle.perm_tree.specs.declared.ast.ClassDecl.{ClassDecl}
 use Rattle.perm_tree.specs.declared.ast.FieldDecl.{FieldDecl}
@@ -12,7 +11,7 @@ use Rattle.perm_tree.specs.CanonicalText as text
 use Rattle.perm_tree.specs.CanonicalText.{field_member, inserted, members, method_member, sorted_by}
 use Rattle.perm_tree.specs.Members.{AllFormsPlaced, Form, IsFormPlaced, form_member, form_start, form_tasks, forms, forms_text, one_field, one_method}
 use Rattle.perm_tree.specs.Pending.{AreParts, part_text, rest_text}
-use Rattle.perm_tree.specs.Places.{ClassPlaced, IsPlaced, Listing, MethodPlaced}
+use Rattle.perm_tree.specs.Places.{ClassPlaced, Listing, MethodPlaced}
 use Rattle.perm_tree.specs.Printing.{onto}
 use Rattle.perm_tree.proofs.PrintFits.{fits-onto, method_fits}
 use Rattle.perm_tree.proofs.PrintTexts.{field-texts, method-texts, rest_text-none, rest_text-onto}
@@ -138,7 +137,3 @@ written_class (Ok a) p c fs t0 t1 t2 t3 t4 t5 e1 e2 e3 e4 is e5 =
     flat : (t a w b F e : List ℕ) → ((((t ++ a) ++ w) ++ b) ++ F) ++ e ≡ t ++ (a ++ (w ++ (b ++ (F ++ e))))
     flat t a w b F e = simp append_assoc
 written_class (Err e) p c fs t0 t1 t2 t3 t4 t5 e1 e2 e3 e4 is e5 = tt
-
-pub class_placed : (p : Listing) (xs : List ClassDecl) (k : ℕ) (c : ClassDecl) → IsPlaced p → xs ≡ p.classes → k < length xs → c ≡ get_or xs k c → ClassPlaced (length p.exprs) (length p.stmts) c
-class_placed p xs k c placed same within read =
-    placed.bodies k c (slice_get_read p.classes (length p.classes) k c refl (subst (λ l. k < length l) same within) (subst (λ l. c ≡ get_or l k c) same read))

@@ -19,11 +19,11 @@ use Rattle.perm_tree.specs.declared.ast.StmtKind.{StmtKind}
 use Rattle.perm_tree.specs.declared.ast.StmtKind.TheVariants.{Declare, Assign, SetField, SetItem, Call as CallStmt, Print, If, While, Par}
 use Rattle.perm_tree.specs.declared.unit.VarInfo.{VarInfo}
 use Rattle.perm_tree.specs.Entries.{entries_from}
-use Rattle.perm_tree.specs.Lookup.{is_class_word}
+use Rattle.perm_tree.specs.Lookup.{class_place, is_class_word}
 use Rattle.perm_tree.specs.Names.{Complaint, class_names, var_names, made_class, class_mentions, doubles, unknowns, passing, in_class, in_method, complaints, first_of_all, run_in, main_run, is_long, is_writable, is_input, takes_input, is_good_run, run_refusal, refusal_from, names_refusal}
 use Rattle.perm_tree.specs.declared.errors.Limit.TheVariants.{Classes, Fields, Methods, Variables}
 use Rattle.perm_tree.specs.Places.{Listing, KindPlaced, MethodPlaced, ClassPlaced, IsPlaced}
-use Rattle.perm_tree.specs.Resolves.{resolved_ty, resolved_decl, resolved_method, resolved_class, resolved_kind, resolved_stmt, with_types, resolved}
+use Rattle.perm_tree.specs.Resolves.{renamed_ty, renamed_decl, renamed_method, renamed_class, renamed_kind, renamed_stmt, with_types, resolved}
 use Rattle.perm_tree.specs.Scopes.{declared_by, declared_if, declared_at, known_until, block_end, block_vars, braced_vars, else_stmts, rhs_vars, inner_vars, all_inner, param_var, method_vars, class_tables, tables_from, tables_of}
 use Rattle.perm_tree.specs.Spelling.{main_word, run_word, is_word}
 
@@ -51,7 +51,7 @@ find-unseen f g [] same = refl
 find-unseen f g (x ∷ xs) same = rw (same x, find-unseen f g xs same) (option_map-cond g x (f x) (find f xs))
 
 -- ---------- places ----------
-kind-placed : (p : Listing) (exprs at : ℕ) (kind : StmtKind) → KindPlaced exprs at kind → KindPlaced exprs at (resolved_kind p kind)
+kind-placed : (p : Listing) (exprs at : ℕ) (kind : StmtKind) → KindPlaced exprs at kind → KindPlaced exprs at (renamed_kind (class_place p) kind)
 kind-placed p exprs at (Declare t x) placed = placed
 kind-placed p exprs at (Assign t x r) placed = placed
 kind-placed p exprs at (SetField y f a) placed = placed
@@ -71,25 +71,25 @@ changed-at g (x ∷ xs) (suc at) y here = changed-at g xs at y here
 pub resolved-placed : (p : Listing) → IsPlaced p → IsPlaced (resolved p)
 resolved-placed p placed = record {
   exprs = placed.exprs;
-  stmts = λ at s here. stmt at s (changed-at (resolved_stmt p) p.stmts at s here);
-  bodies = λ k c here m d there. body k c m d (changed-at (resolved_class p) p.classes k c here) there;
+  stmts = λ at s here. stmt at s (changed-at (renamed_stmt (class_place p)) p.stmts at s here);
+  bodies = λ k c here m d there. body k c m d (changed-at (renamed_class (class_place p)) p.classes k c here) there;
 }
   where
-    stmt : (at : ℕ) (s : Stmt) → (x : Stmt) × (slice_get p.stmts at ≡ Some x) × (resolved_stmt p x ≡ s) → KindPlaced (length p.exprs) at s.kind
+    stmt : (at : ℕ) (s : Stmt) → (x : Stmt) × (slice_get p.stmts at ≡ Some x) × (renamed_stmt (class_place p) x ≡ s) → KindPlaced (length p.exprs) at s.kind
     stmt at s (x, here, is) = subst (λ (y : Stmt). KindPlaced (length p.exprs) at y.kind) is (kind-placed p (length p.exprs) at x.kind (placed.stmts at x here))
 
-    bodies : (c : ClassDecl) (m : ℕ) (d : Method) → ClassPlaced (length p.exprs) (length p.stmts) c → (e : Method) × (slice_get c.methods m ≡ Some e) × (resolved_method p e ≡ d)
-        → MethodPlaced (length p.exprs) (length (map (resolved_stmt p) p.stmts)) d
+    bodies : (c : ClassDecl) (m : ℕ) (d : Method) → ClassPlaced (length p.exprs) (length p.stmts) c → (e : Method) × (slice_get c.methods m ≡ Some e) × (renamed_method (class_place p) e ≡ d)
+        → MethodPlaced (length p.exprs) (length (map (renamed_stmt (class_place p)) p.stmts)) d
     bodies c m d all (e, here, is) =
         subst
         (λ n. MethodPlaced (length p.exprs) n d)
-        (sym (length-map p.stmts (resolved_stmt p)))
+        (sym (length-map p.stmts (renamed_stmt (class_place p))))
         (subst (λ (f : Method). MethodPlaced (length p.exprs) (length p.stmts) f) is (all m e here))
 
-    body : (k : ℕ) (c : ClassDecl) (m : ℕ) (d : Method) → (x : ClassDecl) × (slice_get p.classes k ≡ Some x) × (resolved_class p x ≡ c) → slice_get c.methods m ≡ Some d
-        → MethodPlaced (length p.exprs) (length (map (resolved_stmt p) p.stmts)) d
+    body : (k : ℕ) (c : ClassDecl) (m : ℕ) (d : Method) → (x : ClassDecl) × (slice_get p.classes k ≡ Some x) × (renamed_class (class_place p) x ≡ c) → slice_get c.methods m ≡ Some d
+        → MethodPlaced (length p.exprs) (length (map (renamed_stmt (class_place p)) p.stmts)) d
     body k c m d (x, here, is) there =
-        bodies x m d (placed.bodies k x here) (changed-at (resolved_method p) x.methods m d (subst (λ (y : ClassDecl). slice_get y.methods m ≡ Some d) (sym is) there))
+        bodies x m d (placed.bodies k x here) (changed-at (renamed_method (class_place p)) x.methods m d (subst (λ (y : ClassDecl). slice_get y.methods m ≡ Some d) (sym is) there))
 
 -- ---------- variables ----------
 -- a variable as a name
@@ -102,9 +102,9 @@ idents vars = map ident vars
 module _ (p : Listing) where
   -- the statements of the resolved program
   abbrev stmts : List Stmt
-  stmts = map (resolved_stmt p) p.stmts
+  stmts = map (renamed_stmt (class_place p)) p.stmts
 
-  declared-names : (kind : StmtKind) → map (λ d. d.name) (declared_by (resolved_kind p kind)) ≡ map (λ d. d.name) (declared_by kind)
+  declared-names : (kind : StmtKind) → map (λ d. d.name) (declared_by (renamed_kind (class_place p) kind)) ≡ map (λ d. d.name) (declared_by kind)
   declared-names (Declare t x) = refl
   declared-names (Assign None x r) = refl
   declared-names (Assign (Some t) x r) = refl
@@ -117,9 +117,9 @@ module _ (p : Listing) where
   declared-names (Par a b) = refl
 
   declared_at-names : (i : ℕ) → map (λ d. d.name) (declared_at stmts i) ≡ map (λ d. d.name) (declared_at p.stmts i)
-  declared_at-names i = rw (slice_get-map (resolved_stmt p) p.stmts i) (cases (slice_get p.stmts i))
+  declared_at-names i = rw (slice_get-map (renamed_stmt (class_place p)) p.stmts i) (cases (slice_get p.stmts i))
     where
-      cases : (o : Option Stmt) → map (λ d. d.name) (declared_if (option_map (resolved_stmt p) o)) ≡ map (λ d. d.name) (declared_if o)
+      cases : (o : Option Stmt) → map (λ d. d.name) (declared_if (option_map (renamed_stmt (class_place p)) o)) ≡ map (λ d. d.name) (declared_if o)
       cases None = refl
       cases (Some s) = declared-names s.kind
 
@@ -170,7 +170,7 @@ module _ (p : Listing) where
   rhs-names inner' inner (Recover b w give) same = block-names inner' inner give.end give.end b.stmts same
 
   -- in the blocks of a statement
-  inner-names : (inner' inner : List (List VarInfo)) (kind : StmtKind) → SameNames inner' inner → idents (inner_vars stmts inner' (resolved_kind p kind)) ≡ idents (inner_vars p.stmts inner kind)
+  inner-names : (inner' inner : List (List VarInfo)) (kind : StmtKind) → SameNames inner' inner → idents (inner_vars stmts inner' (renamed_kind (class_place p) kind)) ≡ idents (inner_vars p.stmts inner kind)
   inner-names inner' inner (Declare t x) same = refl
   inner-names inner' inner (Assign t x r) same = rhs-names inner' inner r same
   inner-names inner' inner (SetField y f a) same = refl
@@ -182,11 +182,11 @@ module _ (p : Listing) where
   inner-names inner' inner (Par a b) same = two-names inner' inner a.stmts b.stmts same
 
   entries-names : (inner' inner : List (List VarInfo)) (ss : List Stmt) → SameNames inner' inner
-      → SameNames (entries_from (λ inner s. inner_vars stmts inner s.kind) inner' (map (resolved_stmt p) ss)) (entries_from (λ inner s. inner_vars p.stmts inner s.kind) inner ss)
+      → SameNames (entries_from (λ inner s. inner_vars stmts inner s.kind) inner' (map (renamed_stmt (class_place p)) ss)) (entries_from (λ inner s. inner_vars p.stmts inner s.kind) inner ss)
   entries-names inner' inner [] same = same
   entries-names inner' inner (s ∷ ss) same =
       let here = inner-names inner' inner s.kind same in
-      let x' = inner_vars stmts inner' (resolved_kind p s.kind) in
+      let x' = inner_vars stmts inner' (renamed_kind (class_place p) s.kind) in
       let x = inner_vars p.stmts inner s.kind in
       entries-names (inner' ++ x' ∷ []) (inner ++ x ∷ []) ss (map-append idents inner' (x' ∷ []) ∙ (λ j. same j ++ here j ∷ []) ∙ sym (map-append idents inner (x ∷ [])))
 
@@ -194,18 +194,18 @@ module _ (p : Listing) where
   inner-same = entries-names [] [] p.stmts refl
 
   -- in a method
-  method-names : (inner' inner : List (List VarInfo)) (class : ℕ) (d : Method) → SameNames inner' inner → idents (method_vars stmts inner' class (resolved_method p d)) ≡ idents (method_vars p.stmts inner class d)
+  method-names : (inner' inner : List (List VarInfo)) (class : ℕ) (d : Method) → SameNames inner' inner → idents (method_vars stmts inner' class (renamed_method (class_place p) d)) ≡ idents (method_vars p.stmts inner class d)
   method-names inner' inner class d same =
-      let params = map-twice ident (param_var (resolved_method p d)) (map (resolved_decl p) d.params) ∙ map-unseen (λ f. f.name) (resolved_decl p) d.params (λ f. refl) ∙ sym (map-twice ident (param_var d) d.params) in
+      let params = map-twice ident (param_var (renamed_method (class_place p) d)) (map (renamed_decl (class_place p)) d.params) ∙ map-unseen (λ f. f.name) (renamed_decl (class_place p)) d.params (λ f. refl) ∙ sym (map-twice ident (param_var d) d.params) in
       let body = block-names inner' inner d.span.end d.span.end d.body.stmts same in
       ap (λ xs. record { name = 0; span = record { start = d.name.span.start; end = d.name.span.start } } ∷ xs) (
-      map-append ident (map (param_var (resolved_method p d)) (map (resolved_decl p) d.params)) (block_vars stmts inner' d.span.end d.body.stmts)
+      map-append ident (map (param_var (renamed_method (class_place p) d)) (map (renamed_decl (class_place p)) d.params)) (block_vars stmts inner' d.span.end d.body.stmts)
       ∙ (λ j. params j ++ body j)
       ∙ sym (map-append ident (map (param_var d) d.params) (block_vars p.stmts inner d.span.end d.body.stmts))
       )
 
   class-names : (inner' inner : List (List VarInfo)) (class m : ℕ) (ds : List Method) → SameNames inner' inner
-      → map var_names (class_tables stmts inner' class m (map (resolved_method p) ds)) ≡ map var_names (class_tables p.stmts inner class m ds)
+      → map var_names (class_tables stmts inner' class m (map (renamed_method (class_place p)) ds)) ≡ map var_names (class_tables p.stmts inner class m ds)
   class-names inner' inner class m [] same = refl
   class-names inner' inner class m (d ∷ ds) same =
       let here = method-names inner' inner class d same in
@@ -213,12 +213,12 @@ module _ (p : Listing) where
       λ j. here j ∷ rest j
 
   tables-names : (inner' inner : List (List VarInfo)) (k : ℕ) (cs : List ClassDecl) → SameNames inner' inner
-      → map var_names (tables_from stmts inner' k (map (resolved_class p) cs)) ≡ map var_names (tables_from p.stmts inner k cs)
+      → map var_names (tables_from stmts inner' k (map (renamed_class (class_place p)) cs)) ≡ map var_names (tables_from p.stmts inner k cs)
   tables-names inner' inner k [] same = refl
   tables-names inner' inner k (c ∷ cs) same =
       let here = class-names inner' inner k 0 c.methods same in
       let rest = tables-names inner' inner (suc k) cs same in
-      map-append var_names (class_tables stmts inner' k 0 (map (resolved_method p) c.methods)) (tables_from stmts inner' (suc k) (map (resolved_class p) cs))
+      map-append var_names (class_tables stmts inner' k 0 (map (renamed_method (class_place p)) c.methods)) (tables_from stmts inner' (suc k) (map (renamed_class (class_place p)) cs))
       ∙ (λ j. here j ++ rest j)
       ∙ sym (map-append var_names (class_tables p.stmts inner k 0 c.methods) (tables_from p.stmts inner (suc k) cs))
 
@@ -232,7 +232,7 @@ module _ (p : Listing) where
       ∙ ap (flat_map in_names) (tables-names (all_inner stmts) (all_inner p.stmts) 0 p.classes inner-same)
       ∙ flat_map-map in_names var_names (tables_of p)
 
-  made-same : (kind : StmtKind) → made_class (resolved_kind p kind) ≡ made_class kind
+  made-same : (kind : StmtKind) → made_class (renamed_kind (class_place p) kind) ≡ made_class kind
   made-same (Declare t x) = refl
   made-same (Assign t x (Value a)) = refl
   made-same (Assign t x (Field y f)) = refl
@@ -251,29 +251,29 @@ module _ (p : Listing) where
   made-same (Par a b) = refl
 
   pub mentions-same : class_mentions (with_types p) ≡ class_mentions p
-  mentions-same = ap (λ is. p.mentions ++ is) (flat_map-unseen (λ s. made_class s.kind) (resolved_stmt p) p.stmts (λ s. made-same s.kind))
+  mentions-same = ap (λ is. p.mentions ++ is) (flat_map-unseen (λ s. made_class s.kind) (renamed_stmt (class_place p)) p.stmts (λ s. made-same s.kind))
 
   pub class_names-same : class_names (with_types p) ≡ class_names p
-  class_names-same = map-unseen (λ c. c.name) (resolved_class p) p.classes (λ c. refl)
+  class_names-same = map-unseen (λ c. c.name) (renamed_class (class_place p)) p.classes (λ c. refl)
 
-  in_class-same : (c : ClassDecl) → in_class (resolved_class p c) ≡ in_class c
+  in_class-same : (c : ClassDecl) → in_class (renamed_class (class_place p) c) ≡ in_class c
   in_class-same c =
-      let fields = map-unseen (λ f. f.name) (resolved_decl p) c.fields (λ f. refl) in
-      let methods = map-unseen (λ d. d.name) (resolved_method p) c.methods (λ d. refl) in
+      let fields = map-unseen (λ f. f.name) (renamed_decl (class_place p)) c.fields (λ f. refl) in
+      let methods = map-unseen (λ d. d.name) (renamed_method (class_place p)) c.methods (λ d. refl) in
       λ j. doubles (fields j ++ methods j) ++ (passing Fields (fields j) ++ passing Methods (methods j))
 
   complaints-same : complaints (with_types p) ≡ complaints p
   complaints-same =
-      let classes = flat_map-unseen in_class (resolved_class p) p.classes in_class-same in
+      let classes = flat_map-unseen in_class (renamed_class (class_place p)) p.classes in_class-same in
       λ j. doubles (class_names-same j) ++ (passing Classes (class_names-same j) ++ (classes j ++ (methods-same j ++ unknowns (class_names-same j) (mentions-same j))))
 
   -- ---------- Main and Run ----------
-  is_long-same : (t : Ty) → is_long (resolved_ty p t) ≡ is_long t
+  is_long-same : (t : Ty) → is_long (renamed_ty (class_place p) t) ≡ is_long t
   is_long-same Long = refl
   is_long-same Boolean = refl
   is_long-same (Ref q shape) = refl
 
-  is_input-same : (t : Ty) → is_input (resolved_ty p t) ≡ is_input t
+  is_input-same : (t : Ty) → is_input (renamed_ty (class_place p) t) ≡ is_input t
   is_input-same Long = refl
   is_input-same Boolean = refl
   is_input-same (Ref Isolated (Class n)) = refl
@@ -285,28 +285,28 @@ module _ (p : Listing) where
   is_input-same (Ref Writable (Class n)) = refl
   is_input-same (Ref Writable Array) = refl
 
-  takes_input-same : (fs : List FieldDecl) → takes_input (map (resolved_decl p) fs) ≡ takes_input fs
+  takes_input-same : (fs : List FieldDecl) → takes_input (map (renamed_decl (class_place p)) fs) ≡ takes_input fs
   takes_input-same [] = refl
   takes_input-same (f ∷ []) = is_input-same f.ty
   takes_input-same (f ∷ g ∷ fs) = refl
 
-  is_good_run-same : (d : Method) → is_good_run (resolved_method p d) ≡ is_good_run d
+  is_good_run-same : (d : Method) → is_good_run (renamed_method (class_place p) d) ≡ is_good_run d
   is_good_run-same d =
       let result = is_long-same d.result in
       let params = takes_input-same d.params in
       λ j. result j && (params j && is_writable d.receiver)
 
-  run_refusal-same : (o : Option Method) → run_refusal (option_map (resolved_method p) o) ≡ run_refusal o
+  run_refusal-same : (o : Option Method) → run_refusal (option_map (renamed_method (class_place p)) o) ≡ run_refusal o
   run_refusal-same None = refl
   run_refusal-same (Some d) = rw (is_good_run-same d)
 
-  run_in-same : (o : Option ClassDecl) → run_in (with_types p) (option_map (resolved_class p) o) ≡ option_map (resolved_method p) (run_in p o)
+  run_in-same : (o : Option ClassDecl) → run_in (with_types p) (option_map (renamed_class (class_place p)) o) ≡ option_map (renamed_method (class_place p)) (run_in p o)
   run_in-same None = refl
-  run_in-same (Some c) = find-unseen (λ d. is_word p.names run_word d.name.name) (resolved_method p) c.methods (λ d. refl)
+  run_in-same (Some c) = find-unseen (λ d. is_word p.names run_word d.name.name) (renamed_method (class_place p)) c.methods (λ d. refl)
 
-  main_run-same : main_run (with_types p) ≡ option_map (resolved_method p) (main_run p)
+  main_run-same : main_run (with_types p) ≡ option_map (renamed_method (class_place p)) (main_run p)
   main_run-same =
-      ap (run_in (with_types p)) (find-unseen (is_class_word p main_word) (resolved_class p) p.classes (λ c. refl)) ∙ run_in-same (find (is_class_word p main_word) p.classes)
+      ap (run_in (with_types p)) (find-unseen (is_class_word p main_word) (renamed_class (class_place p)) p.classes (λ c. refl)) ∙ run_in-same (find (is_class_word p main_word) p.classes)
 
   -- what is refused of the names of a program is refused of the one with numbers in its types
   pub names_refusal-typed : names_refusal (with_types p) ≡ names_refusal p

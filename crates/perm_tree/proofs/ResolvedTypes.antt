@@ -15,11 +15,11 @@ use Rattle.perm_tree.specs.declared.ast.StmtKind.TheVariants.{Declare, Assign, S
 use Rattle.perm_tree.specs.Lookup.{class_place}
 use Rattle.perm_tree.specs.Names.{names_refusal}
 use Rattle.perm_tree.specs.Places.{AllBelow, Listing}
-use Rattle.perm_tree.specs.Resolves.{resolved_ty, resolved_decl, resolved_method, resolved_class, resolved_kind, resolved_stmt, resolved_mention, resolved, unmentioned, Resolves, IsResolved}
+use Rattle.perm_tree.specs.Resolves.{renamed_ty, renamed_decl, renamed_method, renamed_class, renamed_kind, renamed_stmt, renamed_mention, resolved, unmentioned, Resolves, IsResolved}
 use Rattle.perm_tree.specs.Scopes.{declared_by, tables_of}
 use Rattle.perm_tree.specs.TextOrder.{AreRising}
 use Rattle.perm_tree.specs.UnitTables.{Tables}
-use Rattle.perm_tree.specs.WellFormed.{ty_classes, decl_classes, method_classes, member_classes, stmt_classes, type_classes, IsOrderly, IsWellFormed}
+use Rattle.perm_tree.specs.WellFormed.{ty_classes, decl_classes, method_classes, member_classes, stmt_classes, type_classes, mention_numbers, IsOrderly, IsWellFormed}
 use Rattle.perm_tree.proofs.AcceptedNames.{names_refusal-accepted, names_refusal-unmentioned}
 use Rattle.perm_tree.proofs.ResolvedLaws.{names_refusal-typed, resolved-placed}
 use Rattle.perm_tree.proofs.ResolvedOrder.{flat_map-changed, marks_of-resolved, numbers-resolved}
@@ -44,42 +44,50 @@ slice_get-front [] ys k x here = absurd (let no : ⊥ = cc here in no)
 slice_get-front (y ∷ xs) ys zero x here = here
 slice_get-front (y ∷ xs) ys (suc k) x here = slice_get-front xs ys k x here
 
--- the element that has a number
-numbered : (is : List Ident) (n : ℕ) → Contains (map (λ i. i.name) is) n → (k : ℕ) × (i : Ident) × (slice_get is k ≡ Some i) × (i.name ≡ n)
-numbered [] n (k, within, at) = absurd (omega arith)
-numbered (i ∷ is) n (zero, within, at) = (zero, i, refl, at)
-numbered (i ∷ is) n (suc k, within, at) = next (numbered is n (k, omega arith, at))
+-- what is among numbers below n is below n
+below-at : (n : ℕ) (xs : List ℕ) (k d : ℕ) → AllBelow n xs → k < length xs → get_or xs k d < n
+below-at n [] k d all within = absurd (omega arith)
+below-at n (x ∷ xs) zero d all within = all.0
+below-at n (x ∷ xs) (suc k) d all within = below-at n xs k d all.1 (omega arith)
+
+among-below : (n : ℕ) (xs ys : List ℕ) → All (Contains xs) ys → AllBelow n xs → AllBelow n ys
+among-below n xs ys among all = below-each n ys (λ k d within. one (get_or ys k d) (among k d within))
   where
-    next : (j : ℕ) × (e : Ident) × (slice_get is j ≡ Some e) × (e.name ≡ n) → (j : ℕ) × (e : Ident) × (slice_get (i ∷ is) j ≡ Some e) × (e.name ≡ n)
-    next (j, e, here, same) = (suc j, e, here, same)
+    one : (y : ℕ) → Contains xs y → y < n
+    one y (k, within, is) = subst (λ x. x < n) is (below-at n xs k y all within)
+
+-- mentioned classes whose numbers are below n
+below-known : (n : ℕ) (number : ℕ → ℕ) (is : List Ident) → ((k : ℕ) (i : Ident) → slice_get is k ≡ Some i → number i.name < n) → AllBelow n (map (λ i. i.name) (map (renamed_mention number) is))
+below-known n number [] known = tt
+below-known n number (i ∷ is) known = (known 0 i refl, below-known n number is (λ k j here. known (suc k) j here))
 
 -- ---------- the classes of types ----------
 module _ (p : Listing) where
   abbrev number : ℕ → ℕ
   number = class_place p
 
-  ty-classes : (t : Ty) → ty_classes (resolved_ty p t) ≡ map number (ty_classes t)
+  ty-classes : (t : Ty) → ty_classes (renamed_ty (class_place p) t) ≡ map number (ty_classes t)
   ty-classes Long = refl
   ty-classes Bool = refl
   ty-classes (Ref q (Class n)) = refl
   ty-classes (Ref q Array) = refl
 
-  decl-classes : (ds : List FieldDecl) → decl_classes (map (resolved_decl p) ds) ≡ map number (decl_classes ds)
-  decl-classes ds = flat_map-changed (λ d. ty_classes d.ty) (resolved_decl p) number ds (λ d. ty-classes d.ty)
+  decl-classes : (ds : List FieldDecl) → decl_classes (map (renamed_decl (class_place p)) ds) ≡ map number (decl_classes ds)
+  decl-classes ds = flat_map-changed (λ d. ty_classes d.ty) (renamed_decl (class_place p)) number ds (λ d. ty-classes d.ty)
 
-  method-classes : (d : Method) → method_classes (resolved_method p d) ≡ map number (method_classes d)
+  method-classes : (d : Method) → method_classes (renamed_method (class_place p) d) ≡ map number (method_classes d)
   method-classes d =
       let result = ty-classes d.result in
       let params = decl-classes d.params in
       (λ j. result j ++ params j) ∙ sym (map-append number (ty_classes d.result) (decl_classes d.params))
 
-  member-classes : (c : ClassDecl) → member_classes (resolved_class p c) ≡ map number (member_classes c)
+  member-classes : (c : ClassDecl) → member_classes (renamed_class (class_place p) c) ≡ map number (member_classes c)
   member-classes c =
       let fields = decl-classes c.fields in
-      let methods = flat_map-changed method_classes (resolved_method p) number c.methods method-classes in
+      let methods = flat_map-changed method_classes (renamed_method (class_place p)) number c.methods method-classes in
       (λ j. fields j ++ methods j) ∙ sym (map-append number (decl_classes c.fields) (flat_map method_classes c.methods))
 
-  declared-resolved : (kind : StmtKind) → declared_by (resolved_kind p kind) ≡ map (resolved_decl p) (declared_by kind)
+  declared-resolved : (kind : StmtKind) → declared_by (renamed_kind (class_place p) kind) ≡ map (renamed_decl (class_place p)) (declared_by kind)
   declared-resolved (Declare t x) = refl
   declared-resolved (Assign None x r) = refl
   declared-resolved (Assign (Some t) x r) = refl
@@ -91,16 +99,16 @@ module _ (p : Listing) where
   declared-resolved (While e a) = refl
   declared-resolved (Par a b) = refl
 
-  stmt-classes : (s : Stmt) → stmt_classes (resolved_stmt p s) ≡ map number (stmt_classes s)
+  stmt-classes : (s : Stmt) → stmt_classes (renamed_stmt (class_place p) s) ≡ map number (stmt_classes s)
   stmt-classes s = ap decl_classes (declared-resolved s.kind) ∙ decl-classes (declared_by s.kind)
 
   type-classes : type_classes (resolved p) ≡ map number (type_classes p)
   type-classes =
-      let classes = flat_map-changed member_classes (resolved_class p) number p.classes member-classes in
-      let stmts = flat_map-changed stmt_classes (resolved_stmt p) number p.stmts stmt-classes in
+      let classes = flat_map-changed member_classes (renamed_class (class_place p)) number p.classes member-classes in
+      let stmts = flat_map-changed stmt_classes (renamed_stmt (class_place p)) number p.stmts stmt-classes in
       (λ j. classes j ++ stmts j) ∙ sym (map-append number (flat_map member_classes p.classes) (flat_map stmt_classes p.stmts))
 
-  mention-numbers : (is : List Ident) → map (λ i. i.name) (map (resolved_mention p) is) ≡ map number (map (λ i. i.name) is)
+  mention-numbers : (is : List Ident) → map (λ i. i.name) (map (renamed_mention number) is) ≡ map number (map (λ i. i.name) is)
   mention-numbers [] = refl
   mention-numbers (i ∷ is) = ap (λ ns. number i.name ∷ ns) (mention-numbers is)
 
@@ -112,25 +120,16 @@ module _ (p : Listing) where
     named = subst (AllBelow (length p.names)) (sym (numbers-resolved p)) orderly.named;
     mentioned =
         subst (λ ms. All (Contains ms) (type_classes (resolved p))) (sym (mention-numbers p.mentions))
-        (subst (All (Contains (map number (map (λ i. i.name) p.mentions)))) (sym type-classes) (all-among-map number (map (λ i. i.name) p.mentions) (type_classes p) orderly.mentioned));
+        (subst (All (Contains (map number (mention_numbers p)))) (sym type-classes) (all-among-map number (mention_numbers p) (type_classes p) orderly.mentioned));
     ordered = subst AreRising (sym (marks_of-resolved p)) orderly.ordered;
   }
 
   pub resolved-formed : IsWellFormed p → IsWellFormed (resolved p)
   resolved-formed formed = record { placed = resolved-placed p formed.placed; orderly = resolved-orderly formed.orderly }
 
-  -- where nothing is refused of its names the classes of its types are there
-  classes-there : IsOrderly p → names_refusal p ≡ None → AllBelow (length p.classes) (type_classes (resolved p))
-  classes-there orderly accepted = below-each (length p.classes) (type_classes (resolved p)) (subst (All (λ n. n < length p.classes)) (sym type-classes) each)
-    where
-      known : (n : ℕ) → (k : ℕ) × (i : Ident) × (slice_get p.mentions k ≡ Some i) × (i.name ≡ n) → number n < length p.classes
-      known n (k, i, here, same) = subst (λ m. number m < length p.classes) same ((names_refusal-accepted p accepted).known k i (slice_get-front p.mentions _ k i here))
-
-      each : All (λ n. n < length p.classes) (map number (type_classes p))
-      each k d within =
-          let there : k < length (type_classes p) = omega (arith, length-map (type_classes p) number) in
-          let n = get_or (type_classes p) k d in
-          subst (λ m. m < length p.classes) (sym (get_or-map number (type_classes p) k d d there)) (known n (numbered p.mentions n (orderly.mentioned k d there)))
+  -- where nothing is refused of its names the classes that it mentions are there
+  mentions-there : names_refusal p ≡ None → AllBelow (length p.classes) (mention_numbers (resolved p))
+  mentions-there accepted = below-known (length p.classes) number p.mentions (λ k i here. (names_refusal-accepted p accepted).known k i (slice_get-front p.mentions _ k i here))
 
 -- ---------- units ----------
 -- the unit of a well formed program is resolved
@@ -138,7 +137,11 @@ pub Resolves-resolved : (p : Listing) (u : Tables) → IsWellFormed p → Resolv
 Resolves-resolved p u formed is = record {
   formed = subst IsWellFormed (sym is.program) (resolved-formed p formed);
   accepted = ap (λ (q : Listing). names_refusal (unmentioned q)) is.program ∙ names_refusal-typed (unmentioned p) ∙ names_refusal-unmentioned p is.accepted;
-  classes = subst (λ (q : Listing). AllBelow (length q.classes) (type_classes q)) (sym is.program)
-      (subst (λ n. AllBelow n (type_classes (resolved p))) (sym (length-map p.classes (resolved_class p))) (classes-there p formed.orderly is.accepted));
+  mentions = subst (λ (q : Listing). AllBelow (length q.classes) (mention_numbers q)) (sym is.program)
+      (subst (λ n. AllBelow n (mention_numbers (resolved p))) (sym (length-map p.classes (renamed_class (class_place p)))) (mentions-there p is.accepted));
   tables = is.tables ∙ ap tables_of (sym is.program);
 }
+
+-- the classes of the types of a resolved unit are there
+pub IsResolved-types : (u : Tables) → IsResolved u → AllBelow (length u.program.classes) (type_classes u.program)
+IsResolved-types u is = among-below (length u.program.classes) (mention_numbers u.program) (type_classes u.program) is.formed.orderly.mentioned is.mentions

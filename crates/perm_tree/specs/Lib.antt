@@ -14,6 +14,7 @@ pub mod Places
 pub mod Printing
 pub mod Resolves
 pub mod Scopes
+pub mod Shapes
 pub mod Spelling
 pub mod TextOrder
 pub mod TextPlaces

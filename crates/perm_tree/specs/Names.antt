@@ -59,7 +59,7 @@ pub record Complaint : Type 0 where
 
 -- of two names the one that comes later in the text
 abbrev pub later : Ident → Ident → Ident
-later i j = if nat_lt j.span.start i.span.start then i else j
+later i j = if nat_lt i.span.start j.span.start then j else i
 
 -- the refusal of a second name
 abbrev pub double_at : Ident → Complaint

@@ -16,52 +16,53 @@ use Rattle.perm_tree.specs.Names.{names_refusal}
 use Rattle.perm_tree.specs.Places.{AllBelow, Listing}
 use Rattle.perm_tree.specs.Scopes.{tables_of}
 use Rattle.perm_tree.specs.UnitTables.{Tables}
-use Rattle.perm_tree.specs.WellFormed.{IsWellFormed, type_classes}
+use Rattle.perm_tree.specs.WellFormed.{IsWellFormed, mention_numbers}
 
--- ---------- class names become numbers ----------
--- the name of a class becomes its number
-abbrev pub resolved_shape : Listing → Shape → Shape
-resolved_shape p (Class name) = Class (class_place p name)
-resolved_shape p Array = Array
+-- ---------- numbers for class names ----------
+-- the name of a class becomes a number
+abbrev pub renamed_shape : (ℕ → ℕ) → Shape → Shape
+renamed_shape number (Class name) = Class (number name)
+renamed_shape number Array = Array
 
 -- so in a type
-abbrev pub resolved_ty : Listing → Ty → Ty
-resolved_ty p (Ref q shape) = Ref q (resolved_shape p shape)
-resolved_ty p t = t
+abbrev pub renamed_ty : (ℕ → ℕ) → Ty → Ty
+renamed_ty number (Ref q shape) = Ref q (renamed_shape number shape)
+renamed_ty number t = t
 
 -- so in a field or a parameter
-abbrev pub resolved_decl : Listing → FieldDecl → FieldDecl
-resolved_decl p d = record d { ty = resolved_ty p d.ty }
+abbrev pub renamed_decl : (ℕ → ℕ) → FieldDecl → FieldDecl
+renamed_decl number d = record d { ty = renamed_ty number d.ty }
 
 -- so in the types of a method
-abbrev pub resolved_method : Listing → Method → Method
-resolved_method p d = record d { result = resolved_ty p d.result; params = map (resolved_decl p) d.params }
+abbrev pub renamed_method : (ℕ → ℕ) → Method → Method
+renamed_method number d = record d { result = renamed_ty number d.result; params = map (renamed_decl number) d.params }
 
 -- so in the members of a class
-abbrev pub resolved_class : Listing → ClassDecl → ClassDecl
-resolved_class p c = record c { fields = map (resolved_decl p) c.fields; methods = map (resolved_method p) c.methods }
+abbrev pub renamed_class : (ℕ → ℕ) → ClassDecl → ClassDecl
+renamed_class number c = record c { fields = map (renamed_decl number) c.fields; methods = map (renamed_method number) c.methods }
 
 -- so in the types of declarations
-abbrev pub resolved_kind : Listing → StmtKind → StmtKind
-resolved_kind p (Declare t x) = Declare (resolved_ty p t) x
-resolved_kind p (Assign t x r) = Assign (option_map (resolved_ty p) t) x r
-resolved_kind p k = k
+abbrev pub renamed_kind : (ℕ → ℕ) → StmtKind → StmtKind
+renamed_kind number (Declare t x) = Declare (renamed_ty number t) x
+renamed_kind number (Assign t x r) = Assign (option_map (renamed_ty number) t) x r
+renamed_kind number k = k
 
 -- so in a statement
-abbrev pub resolved_stmt : Listing → Stmt → Stmt
-resolved_stmt p s = record s { kind = resolved_kind p s.kind }
-
--- the program in which each class name in a type has become the number of its class
-abbrev pub with_types : Listing → Listing
-with_types p = record p { classes = map (resolved_class p) p.classes; stmts = map (resolved_stmt p) p.stmts }
+abbrev pub renamed_stmt : (ℕ → ℕ) → Stmt → Stmt
+renamed_stmt number s = record s { kind = renamed_kind number s.kind }
 
 -- so where a class is mentioned
-abbrev pub resolved_mention : Listing → Ident → Ident
-resolved_mention p i = record i { name = class_place p i.name }
+abbrev pub renamed_mention : (ℕ → ℕ) → Ident → Ident
+renamed_mention number i = record i { name = number i.name }
 
--- so in both
+-- ---------- class names become the numbers of classes ----------
+-- the program in which each class name in a type has become the number of its class
+abbrev pub with_types : Listing → Listing
+with_types p = record p { classes = map (renamed_class (class_place p)) p.classes; stmts = map (renamed_stmt (class_place p)) p.stmts }
+
+-- so in what it mentions
 abbrev pub resolved : Listing → Listing
-resolved p = record (with_types p) { mentions = map (resolved_mention p) p.mentions }
+resolved p = record (with_types p) { mentions = map (renamed_mention (class_place p)) p.mentions }
 
 -- without what it mentions
 abbrev pub unmentioned : Listing → Listing
@@ -74,11 +75,11 @@ pub record Resolves (p : Listing) (u : Tables) : Type 0 where
   pub program : u.program ≡ resolved p
   pub tables : u.tables ≡ tables_of (resolved p)
 
--- what every resolved unit keeps: its program is well formed, nothing is refused of its names, the classes of its types are there, and its tables are those of its program
+-- what every resolved unit keeps: its program is well formed, nothing is refused of its names, the classes that it mentions are there, and its tables are those of its program
 pub record IsResolved (u : Tables) : Type 0 where
   pub formed : IsWellFormed u.program
   pub accepted : names_refusal (unmentioned u.program) ≡ None
-  pub classes : AllBelow (length u.program.classes) (type_classes u.program)
+  pub mentions : AllBelow (length u.program.classes) (mention_numbers u.program)
   pub tables : u.tables ≡ tables_of u.program
 
 -- the bytes of the name of a class

@@ -18,6 +18,10 @@ name_numbers p =
     ++ (map (λ f. f.name.name) (flat_map (λ c. c.fields) p.classes)
     ++ flat_map mark_names (marks_of p))
 
+-- the numbers of the classes that a program mentions
+abbrev pub mention_numbers : Listing → List ℕ
+mention_numbers p = map (λ i. i.name) p.mentions
+
 -- the class of a type, if it has one
 abbrev pub ty_classes : Ty → List ℕ
 ty_classes (Ref q (Class n)) = n ∷ []
@@ -47,7 +51,7 @@ type_classes p = flat_map member_classes p.classes ++ flat_map stmt_classes p.st
 pub record IsOrderly (p : Listing) : Type 0 where
   pub words : AllPairs (λ v w. v ≢ w) p.names
   pub named : AllBelow (length p.names) (name_numbers p)
-  pub mentioned : All (Contains (map (λ i. i.name) p.mentions)) (type_classes p)
+  pub mentioned : All (Contains (mention_numbers p)) (type_classes p)
   pub ordered : AreRising (marks_of p)
 
 -- besides, its places are in range

@@ -104,6 +104,18 @@ fn the_first_refusal_of_names_is_told(rt: HostRuntime) -> Result<(), Fail> {
             "12\ntable DuplicateName 1:27\n",
         ),
         (
+            "class A { long x; long x; long x; }",
+            "12\ntable DuplicateName 1:24\n",
+        ),
+        (
+            "class A { long m() readable { return 0; } long m; }",
+            "12\ntable DuplicateName 1:48\n",
+        ),
+        (
+            "class A { long x; } class B { long x; }",
+            "12\ntable NoMain\n",
+        ),
+        (
             "class Main { long Run(immutable long[] x) writable { par { long y; } { long y; } return 0; } }",
             "12\ntable DuplicateName 1:77\n",
         ),
@@ -119,6 +131,70 @@ fn the_first_refusal_of_names_is_told(rt: HostRuntime) -> Result<(), Fail> {
     for (text, wanted) in cases {
         let answer = run_of(rt.alloc(), text.as_bytes())?;
         assert_eq!(rt; answer.as_str(), wanted, "of {text:?}");
+    }
+    Ok(())
+}
+
+/// A text with so many parts that differ in a number of four digits.
+fn repeated(
+    alloc: Global,
+    head: &str,
+    (front, back): (&str, &str),
+    count: u32,
+    tail: &str,
+) -> Result<String, Fail> {
+    let mut text = String::from_str(alloc, head)?;
+    for number in 1000..1000 + count.min(2000) {
+        let part = format!(in alloc; "{front}{number}{back}")?;
+        text.push_str(part.as_str())?;
+    }
+    text.push_str(tail)?;
+    Ok(text)
+}
+
+#[test]
+fn one_more_than_a_limit_is_too_many(rt: HostRuntime) -> Result<(), Fail> {
+    let cases = [
+        (
+            "",
+            ("class C", " { } "),
+            1000,
+            "",
+            "12\ntable NoMain\n",
+            "12\ntable TooMany 1:16007\n",
+        ),
+        (
+            "class A {",
+            (" long f", ";"),
+            256,
+            " }",
+            "12\ntable NoMain\n",
+            "12\ntable TooMany 1:3088\n",
+        ),
+        (
+            "class A {",
+            (" long m", "() readable { return 0; }"),
+            256,
+            " }",
+            "12\ntable NoMain\n",
+            "12\ntable TooMany 1:9232\n",
+        ),
+        (
+            "class Main { long Run(immutable long[] x) writable {",
+            (" long y", ";"),
+            254,
+            " return 0; } }",
+            "9\nunbuilt\n",
+            "12\ntable TooMany 1:3107\n",
+        ),
+    ];
+    for (head, part, most, tail, at_most, too_many) in cases {
+        let text = repeated(rt.alloc(), head, part, most, tail)?;
+        let answer = run_of(rt.alloc(), text.as_str().as_bytes())?;
+        assert_eq!(rt; answer.as_str(), at_most);
+        let text = repeated(rt.alloc(), head, part, most + 1, tail)?;
+        let answer = run_of(rt.alloc(), text.as_str().as_bytes())?;
+        assert_eq!(rt; answer.as_str(), too_many);
     }
     Ok(())
 }

@@ -10,6 +10,6 @@ returns c =
     let methods = c.in_ok-methods.ensures in
     let added = c.as_slice-3.ensures.value ∙ methods in
     class-findings (field_names c.args.class.now) (method_names c.args.class.now) c.as_slice-2.result.now c.as_slice.result.now c.as_slice-4.result.now
-    (told_if c.args.rest) (told_if c.passing-past_methods.result) (told_if c.passing-past_fields.result) (told_if c.doubles.result)
+    (told_if c.args.rest) (told_if c.passing-past_methods.result) (told_if c.passing-past_fields.result) c.doubles.result
     (c.as_slice-2.ensures.value ∙ fields) (c.as_slice.ensures.value ∙ methods) (c.as_slice-4.ensures.value ∙ c.in_ok-extend_from_slice.ensures.items ∙ (λ j. fields j ++ added j))
     c.passing-past_methods.ensures c.passing-past_fields.ensures c.doubles.ensures
