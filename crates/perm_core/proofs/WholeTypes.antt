@@ -22,12 +22,13 @@ use Rattle.perm_tree.specs.declared.unit.VarInfo.{VarInfo}
 use Rattle.perm_tree.specs.Code.{Routine}
 use Rattle.perm_tree.specs.CodeOf.{routine, code_of}
 use Rattle.perm_tree.specs.Entries.{entries_from}
-use Rattle.perm_tree.specs.Lookup.{method_in, method_of}
+use Rattle.perm_tree.specs.Lookup.{method_of}
 use Rattle.perm_tree.specs.Places.{AllBelow}
 use Rattle.perm_tree.specs.Resolves.{IsResolved}
 use Rattle.perm_tree.specs.Scopes.{declared_if, declared_at, known_until, block_vars, block_end, braced_vars, else_stmts, rhs_vars, inner_vars, all_inner, param_var, method_vars}
 use Rattle.perm_tree.specs.UnitTables.{Tables}
 use Rattle.perm_tree.specs.WellFormed.{ty_classes, decl_classes, method_classes, member_classes, stmt_classes}
+use Rattle.perm_tree.proofs.MethodMarks.{method-class}
 use Rattle.perm_tree.proofs.ResolvedTypes.{IsResolved-types}
 use Rattle.perm_tree.proofs.TableLaws.{AllMethods, IsTable, HasTable, tables_of-methods, routine-table}
 use Rattle.perm_core.specs.Whole.{is_known_type}
@@ -171,14 +172,7 @@ module _ (u : Tables) where
         λ j. this j && rest j
 
 -- ---------- units ----------
--- the class of a table is there, and so is its method
-method-class : (u : Tables) (t : MethodTable) (d : Method) → method_of u.program t ≡ Some d → (c : ClassDecl) × (slice_get u.program.classes t.class ≡ Some c) × (slice_get c.methods t.«method» ≡ Some d)
-method-class u t d is = there (slice_get u.program.classes t.class) is
-  where
-    there : (o : Option ClassDecl) → method_in o t.«method» ≡ Some d → (c : ClassDecl) × (o ≡ Some c) × (slice_get c.methods t.«method» ≡ Some d)
-    there None e = absurd (let no : ⊥ = cc e in no)
-    there (Some c) e = (c, refl, e)
-
+-- the class of a table is there
 pub method-class_within : (u : Tables) (t : MethodTable) (d : Method) → method_of u.program t ≡ Some d → t.class < length u.program.classes
 method-class_within u t d is = let found = method-class u t d is in slice_get_within u.program.classes t.class found.0 found.1
 

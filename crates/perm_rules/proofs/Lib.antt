@@ -4,6 +4,11 @@ mod Loops
 mod PlaceExamples
 mod KindExamples
 pub mod Truth
+pub mod Scoped
+pub mod StandingTerms
+pub mod ApartCodes
+pub mod ApartStatements
+pub mod ApartUnits
 pub mod SetLaws
 pub mod PartLaws
 pub mod Fine

@@ -1,12 +1,15 @@
 -- What the laws of the typing rules claim.
-use Rattle.std.specs.Prelude.{◌≡◌, ◌↔◌, ℕ, false, ◌&&◌, None, Ok, is_none}
+use Rattle.std.specs.Prelude.{◌≡◌, ◌↔◌, ℕ, false, ◌&&◌, None, Some, Ok, is_none, slice_get}
 use Rattle.perm_tree.specs.declared.ast.Stmt.{Stmt}
-use Rattle.perm_tree.specs.Code.{Code, UnitCode}
+use Rattle.perm_tree.specs.Code.{Code, Routine, UnitCode}
+use Rattle.perm_tree.specs.CodeOf.{code_of}
+use Rattle.perm_tree.specs.Resolves.{IsResolved}
 use Rattle.perm_tree.specs.UnitTables.{Tables}
 use Rattle.perm_tree.specs.Vars.{Vars, IsWithin}
 use Rattle.perm_rules.specs.Parts.{Context, type_of}
 use Rattle.perm_rules.specs.Effects.{effect, changed}
-use Rattle.perm_rules.specs.Goes.{Goes, IsAccepted}
+use Rattle.perm_rules.specs.Goes.{Goes, IsAccepted, context}
+use Rattle.perm_rules.specs.Sharing.{AllSharePlainly}
 use Rattle.perm_rules.specs.FirstRefused.{first_refused, unit_refusal}
 use Rattle.perm_rules.specs.AtPlace.{StmtGoes, flow_of}
 
@@ -41,3 +44,7 @@ AgreeOnKnown c G H = (x : ℕ) → is_none (type_of c x) ≡ false → G x ≡ H
 -- what is first refused of a code depends on the live set only in its known variables
 abbrev pub RefusedByKnown : Type 0
 RefusedByKnown = (c : Context) (a : Code) (G H : Vars) → AgreeOnKnown c G H → first_refused c a G ≡ first_refused c a H
+
+-- in each par of a unit, what the blocks declare is no reason to refuse it
+abbrev pub PlainlyShared : Type 0
+PlainlyShared = (u : Tables) (m : ℕ) (r : Routine) → IsResolved u → slice_get (code_of u).routines m ≡ Some r → AllSharePlainly (context (code_of u) r) r.code

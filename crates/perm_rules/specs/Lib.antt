@@ -4,6 +4,7 @@ pub mod Liveness
 pub mod Shapes
 pub mod Permissions
 pub mod Pars
+pub mod Sharing
 pub mod Refusals
 pub mod Effects
 pub mod Goes

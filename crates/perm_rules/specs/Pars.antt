@@ -59,7 +59,7 @@ abbrev pub some_var : Context → Vars → Bool
 some_var c G = some_below (length c.vars) G
 
 -- ---------- the two tests ----------
--- one block assigns, consumes or declares what stands in the other, or an isolated variable stands in both. What the one declares stands in the other in no text, since it is known in its own block alone; so of a text this asks nothing more, and with it the laws hold of every code
+-- one block assigns, consumes or declares what stands in the other, or an isolated variable stands in both. In a unit what the one declares doesn't stand in the other, so there this asks no more than what they assign and consume (`laws::pars`); with it the laws hold of every code
 abbrev pub par_shared : Context → Part → Bool
 par_shared c (ParHead u1 u2 a1 a2) = some_var c (meet a1 u2) || (some_var c (meet a2 u1) || some_var c (meet (isolated_vars c) (meet u1 u2)))
 par_shared c _ = false

@@ -1,6 +1,6 @@
 //! Laws of the typing rules. A law does nothing: its contract is the claim.
 
-ghost use Rattle.perm_rules.specs.Laws.{GoesByEffect, LosesOrMakes, GoesFromMore, GoesUnrefused, AcceptedUnrefused, FlowGoes, RefusedByKnown};
+ghost use Rattle.perm_rules.specs.Laws.{GoesByEffect, LosesOrMakes, GoesFromMore, GoesUnrefused, AcceptedUnrefused, FlowGoes, PlainlyShared, RefusedByKnown};
 
 /// What goes is told by effects, and a larger live set stays larger.
 pub fn effects()
@@ -15,4 +15,9 @@ pub fn refusals()
     ensures unit { AcceptedUnrefused }
     ensures flow { FlowGoes }
     ensures known { RefusedByKnown }
+{}
+
+/// Whether a par of a unit is refused as shared is told by what its blocks assign and consume alone.
+pub fn pars()
+    ensures { PlainlyShared }
 {}

@@ -7,6 +7,7 @@ pub mod CodeRows
 pub mod Entries
 pub mod Lows
 pub mod MentionLaws
+pub mod MethodMarks
 pub mod NameRows
 pub mod Nested
 pub mod ParPrograms

@@ -1,32 +1,21 @@
 -- What a code writes it mentions.
 use Rattle.std.proofs.Common.{◌≡◌, ℕ, Bool, true, false, List, [], ◌∷◌, Option, Some, None, refl, ◌⊎◌, inl, inr}
-use Rattle.std.specs.Prelude.{◌||◌, ◌&&◌, not, nat_eq}
+use Rattle.std.specs.Prelude.{◌&&◌, not, nat_eq}
 use Rattle.std.specs.List.{list_any}
+use Rattle.std.proofs.lemmas.Bool.{or_cases, or_left, or_right}
 use Rattle.perm_tree.specs.Code.{Argument, Expression, Consumed, Instruction, Declare, Assign, LoadField, LoadLength, LoadItem, TakeField, NewObject, NewArray, StoreField, StoreItem, Invoke, Print, Code, End, Give, Return, Do, If, While, Par, Recover}
 use Rattle.perm_tree.specs.Mentions.{any_in_argument, any_in_option, term_mentions, argument_mentions, mentions, argument_consumes, arguments_consume, just_if, just_option, consumes, assigns, mentioned, written, block_mentions, block_writes}
 use Rattle.perm_tree.specs.Vars.{Vars, none, just, those, plus, minus, IsWithin}
 
 -- ---------- sets ----------
-pub or-left : (a b : Bool) → a ≡ true → a || b ≡ true
-or-left true b e = refl
-or-left false b e = absurd (let no : ⊥ = cc e in no)
-
-pub or-right : (a b : Bool) → b ≡ true → a || b ≡ true
-or-right true b e = refl
-or-right false b e = e
-
-pub or-parts : (a b : Bool) → a || b ≡ true → (a ≡ true) ⊎ (b ≡ true)
-or-parts true b e = inl refl
-or-parts false b e = inr e
-
 pub within-left : (G H K : Vars) → IsWithin G H → IsWithin G (plus H K)
-within-left G H K all x e = or-left (H x) (K x) (all x e)
+within-left G H K all x e = or_left (H x) (K x) (all x e)
 
 pub within-right : (G H K : Vars) → IsWithin G K → IsWithin G (plus H K)
-within-right G H K all x e = or-right (H x) (K x) (all x e)
+within-right G H K all x e = or_right (H x) (K x) (all x e)
 
 pub within-both : (G H K : Vars) → IsWithin G K → IsWithin H K → IsWithin (plus G H) K
-within-both G H K left right x e = pick (or-parts (G x) (H x) e)
+within-both G H K left right x e = pick (or_cases (G x) (H x) e)
   where
     pick : (G x ≡ true) ⊎ (H x ≡ true) → K x ≡ true
     pick (inl a) = left x a

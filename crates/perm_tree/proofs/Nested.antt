@@ -24,6 +24,7 @@ use Rattle.perm_tree.specs.Resolves.{IsResolved}
 use Rattle.perm_tree.specs.Scopes.{declared_by, declared_if, known_until, end_if, block_end, block_vars, braced_vars, else_stmts, rhs_vars, inner_vars, all_inner, this_var, param_var, method_vars, class_tables, tables_from}
 use Rattle.perm_tree.specs.TextOrder.{Mark, names, ends, IsRising, Marks, all_expr_marks, marks_at, arg_marks, block_marks, rhs_marks, kind_marks, stmt_marks, all_stmt_marks, params_marks, method_marks, AreRising}
 use Rattle.perm_tree.specs.UnitTables.{Tables}
+use Rattle.perm_tree.proofs.MethodMarks.{rising-parts}
 use Rattle.perm_tree.proofs.Passing.{rising-less, AllPass, past-name, pass-at, exprs-pass, arg-passes, call-passes}
 use Rattle.perm_tree.proofs.ScopeRows.{Laid, Opens, laid-nil, laid-more, laid-append, laid-cons, laid-nested, opens-room, opens-laid}
 
@@ -295,11 +296,6 @@ module _ (p : Listing) (placed : IsPlaced p) where
       (class_tables p.stmts inner class (suc m) ds)
       (method-nested class d (bodies zero d refl) rise.0)
       (class-nested class (suc m) ds (λ j e q. bodies (suc j) e q) rise.1)
-
-  -- marks of two rows of methods
-  rising-parts : (ms ns : List (List Mark)) → AreRising (ms ++ ns) → AreRising ms × AreRising ns
-  rising-parts [] ns rise = (tt, rise)
-  rising-parts (m ∷ ms) ns rise = let rest = rising-parts ms ns rise.1 in ((rise.0, rest.0), rest.1)
 
   tables-nested : (k : ℕ) (cs : List ClassDecl) → ((j : ℕ) (c : ClassDecl) → slice_get cs j ≡ Some c → ClassPlaced (length p.exprs) (length p.stmts) c)
       → AreRising (map (method_marks p.exprs p.stmts) (flat_map (λ c. c.methods) cs)) → All Nested (tables_from p.stmts inner k cs)

@@ -93,7 +93,7 @@ resolved-placed p placed = record {
 
 -- ---------- variables ----------
 -- a variable as a name
-abbrev ident : VarInfo → Ident
+abbrev pub ident : VarInfo → Ident
 ident v = record { name = v.name; span = v.declared }
 
 abbrev idents : List VarInfo → List Ident

@@ -4,9 +4,10 @@ ghost use Rattle.std.specs.Prelude.{◌≡◌, ◌+◌, ◌<◌, ◌^◌, length
 ghost use Rattle.perm_tree.specs.Places.{ExprBelow};
 ghost use Rattle.perm_tree.specs.Printing.{onto, else_tasks, expr_tasks, field_tasks, looseness_at, method_tasks, operand_tasks, recover_tasks, rhs_tasks, stmt_tasks};
 ghost use Rattle.perm_tree.specs.declared.ast.Expr.TheVariants as node;
+ghost use Rattle.perm_tree.specs.declared.ast.Rhs.TheVariants as right;
 ghost use Rattle.perm_tree.specs.declared.ast.StmtKind.TheVariants as form;
 
-use crate::ast::{BinaryOp, Block, Expr, FieldDecl, Ident, Method, Rhs, StmtKind};
+use crate::ast::{Arg, BinaryOp, Block, Expr, FieldDecl, Ident, Method, Rhs, StmtKind};
 use crate::errors::NoMemory;
 use crate::print::part::{Part, Word, level};
 use crate::print::stack::{push, push_all, push_block, push_call, push_params};
@@ -86,30 +87,8 @@ pub fn push_stmt(stack: &mut Vec<Part>, kind: &StmtKind, depth: usize) -> Result
             let gets = Part::Word(Word::Gets);
             push_all(stack, &[indent, Part::Target(*ty, *x), gets])
         }
-        StmtKind::SetField(y, f, a) => push_all(
-            stack,
-            &[
-                indent,
-                Part::Name(*y),
-                Part::Word(Word::Dot),
-                Part::Name(*f),
-                Part::Word(Word::Gets),
-                Part::Arg(*a),
-                end,
-            ],
-        ),
-        StmtKind::SetItem(y, i, e) => push_all(
-            stack,
-            &[
-                indent,
-                Part::Name(*y),
-                Part::Word(Word::OpenItem),
-                Part::Expr(*i),
-                Part::Word(Word::ItemGets),
-                Part::Expr(*e),
-                end,
-            ],
-        ),
+        StmtKind::SetField(y, f, a) => push_set_field(stack, *y, *f, *a, depth),
+        StmtKind::SetItem(y, i, e) => push_set_item(stack, *y, *i, *e, depth),
         StmtKind::Call(call) => {
             push(stack, end)?;
             push_call(stack, call)?;
@@ -123,6 +102,52 @@ pub fn push_stmt(stack: &mut Vec<Part>, kind: &StmtKind, depth: usize) -> Result
         StmtKind::While(e, a) => push_while(stack, *e, a, depth),
         StmtKind::Par(a, b) => push_par(stack, a, b, depth),
     }
+}
+
+fn push_set_field(
+    stack: &mut Vec<Part>,
+    holder: Ident,
+    field: Ident,
+    value: Arg,
+    depth: usize,
+) -> Result<(), NoMemory>
+    ensures { OnOk result (stack.new.items ≡ onto stack.old.items (stmt_tasks depth (form.SetField holder field value))) }
+{
+    push_all(
+        stack,
+        &[
+            Part::Indent(depth),
+            Part::Name(holder),
+            Part::Word(Word::Dot),
+            Part::Name(field),
+            Part::Word(Word::Gets),
+            Part::Arg(value),
+            Part::Word(Word::End),
+        ],
+    )
+}
+
+fn push_set_item(
+    stack: &mut Vec<Part>,
+    array: Ident,
+    index: u32,
+    value: u32,
+    depth: usize,
+) -> Result<(), NoMemory>
+    ensures { OnOk result (stack.new.items ≡ onto stack.old.items (stmt_tasks depth (form.SetItem array index value))) }
+{
+    push_all(
+        stack,
+        &[
+            Part::Indent(depth),
+            Part::Name(array),
+            Part::Word(Word::OpenItem),
+            Part::Expr(index),
+            Part::Word(Word::ItemGets),
+            Part::Expr(value),
+            Part::Word(Word::End),
+        ],
+    )
 }
 
 fn push_if(
@@ -195,6 +220,35 @@ fn push_par(
     push_all(stack, &[Part::Indent(depth), Part::Word(Word::Par)])
 }
 
+fn push_take(stack: &mut Vec<Part>, holder: Ident, field: Ident) -> Result<(), NoMemory>
+    ensures { OnOk result (stack.new.items ≡ onto stack.old.items (rhs_tasks 0 (right.TakeField holder field))) }
+{
+    push_all(
+        stack,
+        &[
+            Part::Word(Word::Consume),
+            Part::Name(holder),
+            Part::Word(Word::Dot),
+            Part::Name(field),
+            Part::Word(Word::End),
+        ],
+    )
+}
+
+fn push_item(stack: &mut Vec<Part>, array: Ident, index: u32) -> Result<(), NoMemory>
+    ensures { OnOk result (stack.new.items ≡ onto stack.old.items (rhs_tasks 0 (right.Item array index))) }
+{
+    push_all(
+        stack,
+        &[
+            Part::Name(array),
+            Part::Word(Word::OpenItem),
+            Part::Expr(index),
+            Part::Word(Word::ItemEnd),
+        ],
+    )
+}
+
 /// The right side of an assignment, and the end of its line.
 fn push_rhs(stack: &mut Vec<Part>, rhs: &Rhs, depth: usize) -> Result<(), NoMemory>
     requires { depth + 1 < 2 ^ 64 }
@@ -205,41 +259,16 @@ fn push_rhs(stack: &mut Vec<Part>, rhs: &Rhs, depth: usize) -> Result<(), NoMemo
     match rhs {
         Rhs::Value(a) => push_all(stack, &[Part::Arg(*a), end]),
         Rhs::Field(y, f) => push_all(stack, &[Part::Name(*y), dot, Part::Name(*f), end]),
-        Rhs::TakeField(y, f) => push_all(
-            stack,
-            &[
-                Part::Word(Word::Consume),
-                Part::Name(*y),
-                dot,
-                Part::Name(*f),
-                end,
-            ],
-        ),
-        Rhs::Item(y, e) => push_all(
-            stack,
-            &[
-                Part::Name(*y),
-                Part::Word(Word::OpenItem),
-                Part::Expr(*e),
-                Part::Word(Word::ItemEnd),
-            ],
-        ),
-        Rhs::New(c) => push_all(
-            stack,
-            &[
-                Part::Word(Word::New),
-                Part::Name(*c),
-                Part::Word(Word::NewEnd),
-            ],
-        ),
-        Rhs::NewArray(e) => push_all(
-            stack,
-            &[
-                Part::Word(Word::NewArray),
-                Part::Expr(*e),
-                Part::Word(Word::ItemEnd),
-            ],
-        ),
+        Rhs::TakeField(y, f) => push_take(stack, *y, *f),
+        Rhs::Item(y, e) => push_item(stack, *y, *e),
+        Rhs::New(c) => {
+            let new = Part::Word(Word::New);
+            push_all(stack, &[new, Part::Name(*c), Part::Word(Word::NewEnd)])
+        }
+        Rhs::NewArray(e) => {
+            let new = Part::Word(Word::NewArray);
+            push_all(stack, &[new, Part::Expr(*e), Part::Word(Word::ItemEnd)])
+        }
         Rhs::Call(call) => {
             push(stack, end)?;
             push_call(stack, call)
