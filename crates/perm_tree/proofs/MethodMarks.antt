@@ -51,11 +51,8 @@ module _ (marks : Method → List Mark) where
 -- the places and the marks of the method of a table
 pub IsResolved-method : (u : Tables) (t : MethodTable) (d : Method) → IsResolved u → method_of u.program t ≡ Some d
     → MethodPlaced (length u.program.exprs) (length u.program.stmts) d × IsRising 0 (method_marks u.program.exprs u.program.stmts d)
-IsResolved-method u t d is here = by_class (method-class u t d here)
-  where
-    by_class : (c : ClassDecl) × (slice_get u.program.classes t.class ≡ Some c) × (slice_get c.methods t.«method» ≡ Some d)
-        → MethodPlaced (length u.program.exprs) (length u.program.stmts) d × IsRising 0 (method_marks u.program.exprs u.program.stmts d)
-    by_class (c, class, «method») = (
-      is.formed.placed.bodies t.class c class t.«method» d «method»,
-      class-rises (method_marks u.program.exprs u.program.stmts) u.program.classes t.class c t.«method» d is.formed.orderly.ordered class «method»,
+IsResolved-method u t d is here =
+    let found = method-class u t d here in (
+      is.formed.placed.bodies t.class found.0 found.1 t.«method» d found.2,
+      class-rises (method_marks u.program.exprs u.program.stmts) u.program.classes t.class found.0 t.«method» d is.formed.orderly.ordered found.1 found.2,
     )
