@@ -1,6 +1,6 @@
 -- Programs written in antt. Each form writes its canonical text and its part of the flat program side by side, so that spans, the numbers of names and the places of statements and expressions are those that reading the text gives.
 use Prim.Native.String.{String}
-use Rattle.std.specs.Prelude.{ℕ, zero, suc, ◌+◌, ◌/◌, ◌%◌, Bool, true, false, nat_eq, nat_lt, pos, List, [], ◌∷◌, ◌++◌, length, map, flat_map, codes, Option, Some, None, if◌then◌else◌}
+use Rattle.std.specs.Prelude.{ℕ, zero, suc, ◌+◌, ◌/◌, ◌%◌, Bool, true, false, nat_eq, nat_lt, pos, List, [], ◌∷◌, ◌++◌, length, map, flat_map, codes, Option, Some, None, if◌then◌else◌, bytes_eq}
 use Rattle.std.specs.List.{position_or_len}
 use Rattle.perm_tree.specs.declared.ast.Span.{Span}
 use Rattle.perm_tree.specs.declared.ast.Perm.{Perm}
@@ -28,7 +28,6 @@ use Rattle.perm_tree.specs.declared.ast.ClassDecl.{ClassDecl}
 use Rattle.perm_tree.specs.Places.{Listing}
 use Rattle.perm_tree.specs.Resolves.{resolved}
 use Rattle.perm_tree.specs.Scopes.{tables_of}
-use Rattle.perm_tree.specs.Spelling.{same_bytes}
 use Rattle.perm_tree.specs.UnitTables.{Tables}
 
 -- ---------- what is written so far ----------
@@ -153,7 +152,7 @@ interned_at w n d = interned_if (nat_lt n (length d.program.names)) w n d
 
 -- the number of a word among the names, in order of first appearance
 abbrev pub interned : List ℕ → Writes ℕ
-interned w d = interned_at w (position_or_len (same_bytes w) d.program.names) d
+interned w d = interned_at w (position_or_len (bytes_eq w) d.program.names) d
 
 -- ---------- names and types ----------
 abbrev name_of : Span × ℕ → Ident

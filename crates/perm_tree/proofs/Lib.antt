@@ -26,6 +26,5 @@ pub mod ResolvedTypes
 pub mod RoutineLaws
 pub mod RunLaw
 pub mod ScopeRows
-pub mod Spelling
 pub mod StableSorts
 pub mod TableLaws

@@ -1,5 +1,5 @@
 -- Words that the rules speak of, by their bytes.
-use Rattle.std.specs.Prelude.{ℕ, Bool, true, false, ◌&&◌, nat_eq, List, [], ◌∷◌, get_or}
+use Rattle.std.specs.Prelude.{ℕ, Bool, List, [], ◌∷◌, get_or, bytes_eq}
 
 -- `Main`
 abbrev pub main_word : List ℕ
@@ -13,12 +13,6 @@ run_word = 82 ∷ 117 ∷ 110 ∷ []
 abbrev pub length_word : List ℕ
 length_word = 76 ∷ 101 ∷ 110 ∷ 103 ∷ 116 ∷ 104 ∷ []
 
--- two words are equal
-abbrev pub same_bytes : List ℕ → List ℕ → Bool
-same_bytes [] [] = true
-same_bytes (x ∷ xs) (y ∷ ys) = nat_eq x y && same_bytes xs ys
-same_bytes _ _ = false
-
 -- the name with number n is this word
 abbrev pub is_word : List (List ℕ) → List ℕ → ℕ → Bool
-is_word names word n = same_bytes (get_or names n []) word
+is_word names word n = bytes_eq (get_or names n []) word
