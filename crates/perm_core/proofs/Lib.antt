@@ -1,3 +1,4 @@
+pub mod FewEvents
 pub mod Hiding
 pub mod HidingCodes
 pub mod HidingStatements
@@ -12,3 +13,4 @@ pub mod WholeCode
 pub mod WholeTypes
 pub mod WholeUnits
 mod WordRuns
+pub mod WordsShown

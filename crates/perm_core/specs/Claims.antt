@@ -13,7 +13,7 @@ use Rattle.perm_core.specs.Core.{look, step, runs, IsLawful, IsComplete, opening
 use Rattle.perm_meaning.specs.WordHeap as worded
 use Rattle.perm_core.specs.WordCore as word_core
 use Rattle.perm_meaning.specs.Literals.{NumbersFit, UnitFits}
-use Rattle.perm_meaning.specs.Shows.{Bases, Grows, IsShownBy}
+use Rattle.perm_meaning.specs.Shows.{Bases, Grows, IsShown, IsShownBy}
 use Rattle.perm_core.specs.Whole.{IsWhole}
 use Rattle.perm_core.specs.Picture.{IsPicture}
 use Rattle.perm_core.specs.Regions.{Labels}
@@ -52,9 +52,13 @@ module _ (u : UnitCode) (limit : ℕ) where
   leaf_at (GoR w) (Fork b p l r) = leaf_at w r
   leaf_at _ _ = None
 
-  -- in a state with a picture each leaf that isn't over has an event
+  -- in this state each leaf that isn't over has an event
+  abbrev pub AllHaveNext : State → Type 0
+  AllHaveNext s = (w : Way) (b : named.Branch) → leaf_at w s.task ≡ Some b → over (stage b) ≡ None → (t : State) × (step u limit s w ≡ Some t)
+
+  -- so it is in a state with a picture
   abbrev pub HasNext : Type 0
-  HasNext = (labels : Labels) (s : State) (w : Way) (b : named.Branch) → IsChecked u → IsPicture u labels s → leaf_at w s.task ≡ Some b → over (stage b) ≡ None → (t : State) × (step u limit s w ≡ Some t)
+  HasNext = (labels : Labels) (s : State) → IsChecked u → IsPicture u labels s → AllHaveNext s
 
   -- ---------- the order of events ----------
   -- the operation is an allocation that has no room
@@ -91,11 +95,36 @@ module _ (u : UnitCode) (limit : ℕ) where
       → (SomeRefused ws (opening_state u input turns r) → outcome u input turns limit ≡ RanFull) × (outcome u input turns limit ≡ RanFull → SomeRefused ws (opening_state u input turns r))
 
   -- ---------- words ----------
+  -- the run on this input begins with the body of this method, bases have 32 bits, and the numbers of the code and of the input have 64 bits
+  pub record OpensOnWords (input : List ℤ) (r : Routine) : Type 0 where
+    pub opens : Opens input r
+    pub bases : limit < 2 ^ 32
+    pub code : UnitFits u
+    pub numbers : NumbersFit input
+
+  -- after each lawful list of events the core on words is in a state that shows the one of the core on names
+  abbrev pub WordsShowRuns : List ℤ → ℕ → Type 0
+  WordsShowRuns input turns = (r : Routine) → OpensOnWords input r → (ws : List Way) (s : State) → runs u limit ws (opening_state u input turns r) ≡ Some s
+      → (t : worded.State) × (word_core.runs u limit ws (worded.opening_state u input turns r) ≡ Some t) × IsShown s t
+
+  -- the event of a node on words leads to a state that shows the one to which it leads on names
+  pub record Follows (b : Bases) (t : worded.State) (w : Way) (s' : State) : Type 0 where
+    pub after : worded.State
+    pub event : word_core.step u limit t w ≡ Some after
+    pub bases : Bases
+    pub grown : Grows b bases
+    pub shown : IsShownBy bases s' after
+
   -- the core on words does what the core on names does, in each state that is reached from the opening
   abbrev pub WordsFollow : List ℤ → ℕ → Type 0
-  WordsFollow input turns = limit < 2 ^ 32 → UnitFits u → NumbersFit input → (r : Routine) → IsChecked u → Opens input r
-      → (ws : List Way) (s s' : State) (b : Bases) (t : worded.State) (w : Way) → runs u limit ws (opening_state u input turns r) ≡ Some s → IsShownBy b s t → step u limit s w ≡ Some s'
-      → (t' : worded.State) × (word_core.step u limit t w ≡ Some t') × (c : Bases) × Grows b c × IsShownBy c s' t'
+  WordsFollow input turns = (r : Routine) → OpensOnWords input r → (ws : List Way) (s s' : State) (b : Bases) (t : worded.State) (w : Way)
+      → runs u limit ws (opening_state u input turns r) ≡ Some s → IsShownBy b s t → step u limit s w ≡ Some s' → Follows b t w s'
+
+  -- and it does nothing else, where each leaf that isn't over has an event on names
+  abbrev pub WordsDoNoMore : List ℤ → ℕ → Type 0
+  WordsDoNoMore input turns = (r : Routine) → OpensOnWords input r → (ws : List Way) (s : State) (b : Bases) (t t' : worded.State) (w : Way)
+      → runs u limit ws (opening_state u input turns r) ≡ Some s → IsShownBy b s t → AllHaveNext s → word_core.step u limit t w ≡ Some t'
+      → (s' : State) × (step u limit s w ≡ Some s') × (c : Bases) × Grows b c × IsShownBy c s' t'
 
 -- ---------- pieces ----------
 module _ {V G O : Type 0} (m : Machine V G O) where

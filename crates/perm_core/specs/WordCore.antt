@@ -1,5 +1,5 @@
 -- The core on words, which a running program shows.
-use Rattle.std.specs.Prelude.{ℕ, Option}
+use Rattle.std.specs.Prelude.{ℕ, List, Option}
 use Rattle.perm_tree.specs.Code.{UnitCode}
 use Rattle.perm_meaning.specs.Machine as machines
 use Rattle.perm_meaning.specs.Machine.{Machine, Way}
@@ -19,3 +19,7 @@ look u w t = machines.look (word_core u) w t
 -- the event of a node, in a heap of so many words
 abbrev pub step : UnitCode → ℕ → State → Way → Option State
 step u limit s w = steps.step (word_core u) memory (within limit) s w
+
+-- the state after a list of events, where each is allowed at its place
+abbrev pub runs : UnitCode → ℕ → List Way → State → Option State
+runs u limit ws s = steps.runs (step u limit) ws s

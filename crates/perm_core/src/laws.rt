@@ -1,11 +1,26 @@
 //! Laws of the core. A law does nothing: its contract is the claim.
 
+ghost use Rattle.std.specs.Prelude.{ℕ, ℤ, List};
+ghost use Rattle.perm_tree.specs.Code.{UnitCode};
 ghost use Rattle.perm_tree.specs.CodeOf.{code_of};
 ghost use Rattle.perm_tree.specs.Resolves.{IsResolved};
 ghost use Rattle.perm_tree.specs.UnitTables.{Tables};
+ghost use Rattle.perm_core.specs.Claims.{FewEvents, WordsDoNoMore, WordsFollow, WordsShowRuns};
 ghost use Rattle.perm_core.specs.Whole.{IsWhole};
 
 /// The code of every unit is whole.
 pub fn whole()
     ensures { (unit : Tables) → IsResolved unit → IsWhole (code_of unit) }
+{}
+
+/// The core on words does what the core on names does, whatever the order of events, and shows it; where each branch that isn't over has an event on names it does nothing else.
+pub fn words()
+    ensures runs { (u : UnitCode) (limit : ℕ) (input : List ℤ) (turns : ℕ) → WordsShowRuns u limit input turns }
+    ensures follows { (u : UnitCode) (limit : ℕ) (input : List ℤ) (turns : ℕ) → WordsFollow u limit input turns }
+    ensures no_more { (u : UnitCode) (limit : ℕ) (input : List ℤ) (turns : ℕ) → WordsDoNoMore u limit input turns }
+{}
+
+/// A list of events from the opening has at most twice as many events as there are turns.
+pub fn few_events()
+    ensures { (u : UnitCode) (limit : ℕ) (input : List ℤ) (turns : ℕ) → FewEvents u limit input turns }
 {}

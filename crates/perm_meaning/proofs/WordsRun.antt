@@ -73,7 +73,7 @@ module _ (c : Custody) (u : UnitCode) (uf : UnitFits u) (fits : ℕ → Bool) (s
 
 -- ---------- ends ----------
 -- a heap of less than 2 ^ 32 words
-within_small : (limit : ℕ) → limit < 2 ^ 32 → IsSmall (within limit)
+pub within_small : (limit : ℕ) → limit < 2 ^ 32 → IsSmall (within limit)
 within_small limit h = record { small = λ n e. below n e; down = λ a b e. less a b e }
   where
     below : (n : ℕ) → nat_le n limit ≡ true → n < 2 ^ 32
