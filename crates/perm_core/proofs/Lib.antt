@@ -1,11 +1,16 @@
+pub mod Bags
 pub mod FewEvents
+pub mod HeldEvents
 pub mod Hiding
 pub mod HidingCodes
 pub mod HidingStatements
+pub mod Holes
 mod Interleavings
 pub mod PictureTest
+pub mod PieceEvents
 mod Pictures
 pub mod RegionPrograms
+mod RightSides
 pub mod Schedules
 mod Shortages
 mod ShownRuns

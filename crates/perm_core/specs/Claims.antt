@@ -204,3 +204,10 @@ module _ {V G O : Type 0} (m : Machine V G O) where
   -- from the tree to its pieces: each event is that of one holder or a join under a number, or it is on a side that is kept aside
   abbrev pub EventOfPieces : Type 0
   EventOfPieces = (h : Held V G) (w : Way) (o : O) → IsDistinct (numbers h) → AllOver h → machines.look m w (held_task h) ≡ Some o → OfOne h w o ⊎ (OfTwo h w ⊎ IsAsideIn h w)
+
+  -- the pieces tell every event of a tree but those of sides that are kept aside
+  pub record PiecesTellEvents : Type 0 where
+    pub turn : TurnOfPiece
+    pub split : SplitOfPiece
+    pub join : JoinOfPieces
+    pub event : EventOfPieces

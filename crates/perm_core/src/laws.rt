@@ -5,8 +5,10 @@ ghost use Rattle.perm_tree.specs.Code.{UnitCode};
 ghost use Rattle.perm_tree.specs.CodeOf.{code_of};
 ghost use Rattle.perm_tree.specs.Resolves.{IsResolved};
 ghost use Rattle.perm_tree.specs.UnitTables.{Tables};
-ghost use Rattle.perm_core.specs.Claims.{FewEvents, WordsDoNoMore, WordsFollow, WordsShowRuns};
+ghost use Rattle.perm_core.specs.Claims.{FewEvents, PiecesTellEvents, WordsDoNoMore, WordsFollow, WordsShowRuns};
+ghost use Rattle.perm_core.specs.Core.{core};
 ghost use Rattle.perm_core.specs.Whole.{IsWhole};
+ghost use Rattle.perm_core.specs.WordCore.{word_core};
 
 /// The code of every unit is whole.
 pub fn whole()
@@ -23,4 +25,10 @@ pub fn words()
 /// A list of events from the opening has at most twice as many events as there are turns.
 pub fn few_events()
     ensures { (u : UnitCode) (limit : ℕ) (input : List ℤ) (turns : ℕ) → FewEvents u limit input turns }
+{}
+
+/// An event of a numbered tree, on names or on words and whatever the heap answers, changes one piece; or it starts a par under a new number and replaces a piece, with which nothing is kept aside, by two that bear the number; or it joins these two. No other piece changes. Nothing is said of an event on a side that is kept aside, since no holder does it.
+pub fn pieces()
+    ensures names { (u : UnitCode) → PiecesTellEvents (core u) }
+    ensures words { (u : UnitCode) → PiecesTellEvents (word_core u) }
 {}
