@@ -3,7 +3,7 @@ use Rattle.std.proofs.Common.{◌≡◌, Option, Some, None, refl, sym, ap, ◌�
 use Rattle.std.specs.Prelude.{◌⊎◌}
 use Rattle.perm_meaning.specs.Machine.{Branch, Task, Leaf, Fork, Blocks, Way, Here, GoL, GoR, Final, Fine, GaveBack, Failed, Stage, Over, Due, Did, On, Splits, Ends, Dies, Turn, Takes, NoTurn, Machine, stage, final, if_both_over, done, told_to, next_turn, leaf_on, resumed, join_of, look, fill}
 use Rattle.perm_meaning.specs.Steps.{Lone, Run, KeptRight, KeptLeft, lone_task, lone_of, lone_way, lone_on, left_side_way, right_side_way, after_left, after_right, AreOver}
-use Rattle.perm_meaning.proofs.Leads.{none_some, ended_no_event}
+use Rattle.perm_meaning.proofs.Leads.{none_some, ended_no_event, unended}
 use Rattle.perm_core.specs.Pieces.{Numbered, Held, One, Two, held_task, AllOver, IsAside, IsAsideIn}
 use Rattle.perm_core.proofs.Holes.{Round, Hole, OnLeft, OnRight, plug, at_hole}
 
@@ -118,13 +118,6 @@ module _ {V G O : Type 0} (m : Machine V G O) where
   pub join-sides : (l r : Task V G) (b : Branch V G) (p : Blocks) (o : O) → look m Here (Fork b p l r) ≡ Some o → (f : Final V) × (g : Final V) × (final l ≡ Some f) × (final r ≡ Some g)
   join-sides l r b p o h = both-over (final l) (final r) o h
 
-  not-over : (w : Way) (t : Task V G) (o : O) → look m w t ≡ Some o → final t ≡ None
-  not-over w t o e = go (final t) refl
-    where
-      go : (x : Option (Final V)) → final t ≡ x → x ≡ None
-      go None q = refl
-      go (Some f) q = none_some (sym (ended_no_event m w t f q) ∙ e)
-
   -- of the tree of one holder
   own-way : (x : Lone V G) (w : Way) (o : O) → AreOver x → look m w (lone_task x) ≡ Some o → (w ≡ lone_way x) ⊎ IsAside x w
   own-way (Run b) Here o over e = inl refl
@@ -136,7 +129,7 @@ module _ {V G O : Type 0} (m : Machine V G O) where
   own-way (KeptRight b p l r) (GoL w) o over e = go (own-way l w o over e)
     where
       go : (w ≡ lone_way l) ⊎ IsAside l w → (GoL w ≡ left_side_way (final (lone_task l)) (final (Leaf r)) (lone_way l)) ⊎ IsAside l w
-      go (inl q) = inl (ap (λ z. GoL z) q ∙ sym (ap (λ z. left_side_way z (final (Leaf r)) (lone_way l)) (not-over w (lone_task l) o e)))
+      go (inl q) = inl (ap (λ z. GoL z) q ∙ sym (ap (λ z. left_side_way z (final (Leaf r)) (lone_way l)) (unended m w (lone_task l) o e)))
       go (inr q) = inr q
   own-way (KeptRight b p l r) (GoR w) o over e = inr tt
   own-way (KeptLeft b p l r) Here o over e =
@@ -146,7 +139,7 @@ module _ {V G O : Type 0} (m : Machine V G O) where
   own-way (KeptLeft b p l r) (GoR w) o over e = go (own-way r w o over.1 e)
     where
       go : (w ≡ lone_way r) ⊎ IsAside r w → (GoR w ≡ right_side_way (final (lone_task r)) (lone_way r)) ⊎ IsAside r w
-      go (inl q) = inl (ap (λ z. GoR z) q ∙ sym (ap (λ z. right_side_way z (lone_way r)) (not-over w (lone_task r) o e)))
+      go (inl q) = inl (ap (λ z. GoR z) q ∙ sym (ap (λ z. right_side_way z (lone_way r)) (unended m w (lone_task r) o e)))
       go (inr q) = inr q
 
   leaf-is : (h : Held V G) (f : Final V) → final (held_task h) ≡ Some f → (b : Branch V G) × (h ≡ One (Run b))

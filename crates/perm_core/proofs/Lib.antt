@@ -14,6 +14,9 @@ mod RightSides
 pub mod Schedules
 mod Shortages
 mod ShownRuns
+mod TwoEvents
+pub mod TwoNodes
+pub mod TwoOperations
 pub mod WholeCode
 pub mod WholeTypes
 pub mod WholeUnits
