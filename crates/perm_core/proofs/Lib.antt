@@ -1,4 +1,5 @@
 pub mod Bags
+mod Conflicts
 pub mod FewEvents
 pub mod HeldEvents
 pub mod Hiding
@@ -7,6 +8,9 @@ pub mod HidingStatements
 pub mod Holes
 mod Interleavings
 pub mod PictureTest
+mod LeadsTo
+pub mod LeafOperations
+mod NamesToCome
 pub mod PieceEvents
 mod Pictures
 pub mod RegionPrograms
@@ -22,3 +26,4 @@ pub mod WholeTypes
 pub mod WholeUnits
 mod WordRuns
 pub mod WordsShown
+mod ZonesApart

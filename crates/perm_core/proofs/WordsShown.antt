@@ -68,7 +68,7 @@ module _ (u : UnitCode) (limit : ℕ) where
   -- ---------- from words to names ----------
   -- on names a node is a leaf that isn't over, or the join of a parent
   abbrev MayGo : Way → Task → Type 0
-  MayGo w s = ((b : named.Branch) × (leaf_at u limit w s ≡ Some b) × (over (stage b) ≡ None)) ⊎ (look u w s ≡ Some Tick)
+  MayGo w s = ((b : named.Branch) × (leaf_at w s ≡ Some b) × (over (stage b) ≡ None)) ⊎ (look u w s ≡ Some Tick)
 
   leaf_goes : (b : Bases) (x : named.Branch) (y : worded.Branch) (st : Stage Held) (st' : Stage ℕ) (p : Ask) → stage x ≡ st → StageR (IsWordOf b) AnyMark st st' → leaf_op (machine u) y st' ≡ Some p → MayGo Here (Leaf x)
   leaf_goes b x y st (Over g) p e alike ask = none_some ask

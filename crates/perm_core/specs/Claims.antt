@@ -26,6 +26,13 @@ pub record IsChecked (u : UnitCode) : Type 0 where
   pub accepted : IsAccepted u
   pub whole : IsWhole u
 
+-- the branch of the leaf at a node
+abbrev pub leaf_at : Way → Task → Option named.Branch
+leaf_at Here (Leaf b) = Some b
+leaf_at (GoL w) (Fork b p l r) = leaf_at w l
+leaf_at (GoR w) (Fork b p l r) = leaf_at w r
+leaf_at _ _ = None
+
 module _ (u : UnitCode) (limit : ℕ) where
   -- the run on this input begins with the body of this method
   pub record Opens (input : List ℤ) (r : Routine) : Type 0 where
@@ -44,13 +51,6 @@ module _ (u : UnitCode) (limit : ℕ) where
   -- a state with a picture has no conflict
   abbrev pub HasNoConflict : Type 0
   HasNoConflict = (labels : Labels) (s : State) → IsPicture u labels s → Conflict u s → ⊥
-
-  -- the branch of the leaf at a node
-  abbrev pub leaf_at : Way → Task → Option named.Branch
-  leaf_at Here (Leaf b) = Some b
-  leaf_at (GoL w) (Fork b p l r) = leaf_at w l
-  leaf_at (GoR w) (Fork b p l r) = leaf_at w r
-  leaf_at _ _ = None
 
   -- in this state each leaf that isn't over has an event
   abbrev pub AllHaveNext : State → Type 0

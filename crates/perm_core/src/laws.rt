@@ -5,7 +5,7 @@ ghost use Rattle.perm_tree.specs.Code.{UnitCode};
 ghost use Rattle.perm_tree.specs.CodeOf.{code_of};
 ghost use Rattle.perm_tree.specs.Resolves.{IsResolved};
 ghost use Rattle.perm_tree.specs.UnitTables.{Tables};
-ghost use Rattle.perm_core.specs.Claims.{FewEvents, PiecesTellEvents, WordsDoNoMore, WordsFollow, WordsShowRuns};
+ghost use Rattle.perm_core.specs.Claims.{EitherOrder, FewEvents, HasNoConflict, PiecesTellEvents, WordsDoNoMore, WordsFollow, WordsShowRuns};
 ghost use Rattle.perm_core.specs.Core.{core};
 ghost use Rattle.perm_core.specs.Whole.{IsWhole};
 ghost use Rattle.perm_core.specs.WordCore.{word_core};
@@ -31,4 +31,14 @@ pub fn few_events()
 pub fn pieces()
     ensures names { (u : UnitCode) → PiecesTellEvents (core u) }
     ensures words { (u : UnitCode) → PiecesTellEvents (word_core u) }
+{}
+
+/// In a state with a region picture no two nodes are about to touch one field, one of them writing.
+pub fn no_conflict()
+    ensures { (u : UnitCode) (limit : ℕ) → HasNoConflict u limit }
+{}
+
+/// In a state with a region picture two events of different nodes may come in either order, and lead to one state, unless an allocation is refused in one of the orders.
+pub fn commute()
+    ensures { (u : UnitCode) (limit : ℕ) → EitherOrder u limit }
 {}
