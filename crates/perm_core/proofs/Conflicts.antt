@@ -1,6 +1,7 @@
 -- A state with a picture has no conflict: each leaf writes and touches regions that no other leaf touches and writes.
 use Rattle.std.proofs.Common.{◌≡◌, ℕ, Bool, true, false, Option, Some, None, List, [], ◌∷◌, refl, sym, ap, subst, ◌∙◌, inl, inr}
 use Rattle.std.specs.Prelude.{◌⊎◌, not, ◌||◌, ◌&&◌, slice_get, is_none}
+use Rattle.std.proofs.lemmas.Bool.{or_parts, not-false}
 use Rattle.perm_tree.specs.declared.ast.Perm.{Perm}
 use Rattle.perm_tree.specs.declared.ast.Perm.TheVariants.{Isolated, Immutable, Readable, Writable}
 use Rattle.perm_tree.specs.declared.ast.Shape.{Shape}
@@ -37,14 +38,6 @@ use Rattle.perm_core.proofs.LeadsTo.{Refers, refers, led-touches, led-writes}
 use Rattle.perm_core.proofs.LeafOperations.{WritesThrough, FirstWritesThrough, IsIn, TurnAsks, turn-asks}
 
 -- ---------- permissions ----------
-or-none : (a b : Bool) → (a || b) ≡ false → (a ≡ false) × (b ≡ false)
-or-none false b e = (refl, e)
-or-none true b e = absurd (cc)
-
-unrefused : (b : Bool) → not b ≡ false → b ≡ true
-unrefused true e = refl
-unrefused false e = absurd (cc)
-
 stores-changes : (p : Perm) (s : Shape) (t : Ty) → may_store (Ref p s) t ≡ true → may_change (Ref p s) ≡ true
 stores-changes Isolated s t e = refl
 stores-changes Writable s t e = refl
@@ -54,10 +47,10 @@ stores-changes Immutable s t e = absurd (cc)
 -- a field that is stored to is known, and its receiver's permission lets it
 module _ (c : Context) (y f : ℕ) (a : Argument) (G : Vars) (allowed : IsAllowed c (Simple (StoreField y f a)) G) (p : Perm) (s : Shape) (type : type_of c y ≡ Some (Ref p s)) where
   is-object : is_object (Ref p s) ≡ true
-  is-object = unrefused (is_object (Ref p s)) (sym (ap (λ t. if_known t (λ t. not (is_object t))) type) ∙ (or-none (isnt_object c y) (argument_misfits c a (field_type c y f)) (applies-none c (Simple (StoreField y f a)) G allowed WrongKind)).0)
+  is-object = not-false (is_object (Ref p s)) (sym (ap (λ t. if_known t (λ t. not (is_object t))) type) ∙ (or_parts (isnt_object c y) (argument_misfits c a (field_type c y f)) (applies-none c (Simple (StoreField y f a)) G allowed WrongKind)).0)
 
   lacks-none : (if_known (type_of c y) is_object && is_none (field_type c y f)) ≡ false
-  lacks-none = (or-none (any_in_part (λ x. is_none (type_of c x)) (Simple (StoreField y f a))) (lacks_member c (Simple (StoreField y f a))) (applies-none c (Simple (StoreField y f a)) G allowed UnknownName)).1
+  lacks-none = (or_parts (any_in_part (λ x. is_none (type_of c x)) (Simple (StoreField y f a))) (lacks_member c (Simple (StoreField y f a))) (applies-none c (Simple (StoreField y f a)) G allowed UnknownName)).1
 
   known-field : is_none (field_type c y f) ≡ false
   known-field = go (is_none (field_type c y f)) (sym (ap (λ t. if_known t is_object && is_none (field_type c y f)) type ∙ ap (λ b. b && is_none (field_type c y f)) is-object) ∙ lacks-none)
@@ -70,14 +63,14 @@ module _ (c : Context) (y f : ℕ) (a : Argument) (G : Vars) (allowed : IsAllowe
     where
       go : (t : Option Ty) → is_none t ≡ false → if_both_known (Some (Ref p s)) t (λ t u. not (may_store t u)) ≡ false → may_change (Ref p s) ≡ true
       go None known e = absurd (cc)
-      go (Some t) known e = stores-changes p s t (unrefused (may_store (Ref p s) t) e)
+      go (Some t) known e = stores-changes p s t (not-false (may_store (Ref p s) t) e)
 
 -- an instruction that is allowed writes through a variable whose permission lets it
 allowed-changes : (c : Context) (i : Instruction) (G : Vars) → IsAllowed c (Simple i) G → (y : ℕ) (p : Perm) (s : Shape) → WritesThrough i y → type_of c y ≡ Some (Ref p s) → may_change (Ref p s) ≡ true
 allowed-changes c (TakeField x z f) G allowed y p s w type =
-    unrefused (may_change (Ref p s)) (sym (ap (λ t. if_known t (λ t. not (may_change t))) (ap (λ q. type_of c q) w ∙ type)) ∙ applies-none c (Simple (TakeField x z f)) G allowed NotAllowedThrough)
+    not-false (may_change (Ref p s)) (sym (ap (λ t. if_known t (λ t. not (may_change t))) (ap (λ q. type_of c q) w ∙ type)) ∙ applies-none c (Simple (TakeField x z f)) G allowed NotAllowedThrough)
 allowed-changes c (StoreItem z i e) G allowed y p s w type =
-    unrefused (may_change (Ref p s)) (sym (ap (λ t. if_known t (λ t. not (may_change t))) (ap (λ q. type_of c q) w ∙ type)) ∙ applies-none c (Simple (StoreItem z i e)) G allowed NotAllowedThrough)
+    not-false (may_change (Ref p s)) (sym (ap (λ t. if_known t (λ t. not (may_change t))) (ap (λ q. type_of c q) w ∙ type)) ∙ applies-none c (Simple (StoreItem z i e)) G allowed NotAllowedThrough)
 allowed-changes c (StoreField z f a) G allowed y p s w type = stored-changes c z f a G allowed p s (ap (λ q. type_of c q) w ∙ type)
 allowed-changes c (Declare x) G allowed y p s w type = absurd w
 allowed-changes c (Assign x a) G allowed y p s w type = absurd w

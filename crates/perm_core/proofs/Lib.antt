@@ -11,6 +11,7 @@ pub mod PictureTest
 mod LeadsTo
 pub mod LeafOperations
 mod NamesToCome
+mod OpeningPicture
 pub mod PieceEvents
 mod Pictures
 pub mod RegionPrograms

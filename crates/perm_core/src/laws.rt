@@ -5,7 +5,7 @@ ghost use Rattle.perm_tree.specs.Code.{UnitCode};
 ghost use Rattle.perm_tree.specs.CodeOf.{code_of};
 ghost use Rattle.perm_tree.specs.Resolves.{IsResolved};
 ghost use Rattle.perm_tree.specs.UnitTables.{Tables};
-ghost use Rattle.perm_core.specs.Claims.{EitherOrder, FewEvents, HasNoConflict, PiecesTellEvents, WordsDoNoMore, WordsFollow, WordsShowRuns};
+ghost use Rattle.perm_core.specs.Claims.{EitherOrder, FewEvents, HasNoConflict, OpensWithPicture, PiecesTellEvents, WordsDoNoMore, WordsFollow, WordsShowRuns};
 ghost use Rattle.perm_core.specs.Core.{core};
 ghost use Rattle.perm_core.specs.Whole.{IsWhole};
 ghost use Rattle.perm_core.specs.WordCore.{word_core};
@@ -31,6 +31,11 @@ pub fn few_events()
 pub fn pieces()
     ensures names { (u : UnitCode) → PiecesTellEvents (core u) }
     ensures words { (u : UnitCode) → PiecesTellEvents (word_core u) }
+{}
+
+/// The opening of an accepted unit whose code is whole has a region picture, where the heap holds its two objects.
+pub fn opening()
+    ensures { (u : UnitCode) (limit : ℕ) (input : List ℤ) (turns : ℕ) → OpensWithPicture u limit input turns }
 {}
 
 /// In a state with a region picture no two nodes are about to touch one field, one of them writing.
