@@ -103,12 +103,12 @@ module _ (u : UnitCode) where
   due b (Over f) o e = none_some e
   due b (Due t) o e = (t, refl, e)
 
-  unfailed : (below : List ℕ) (b : Branch) (H : Vars) (t : ℕ) → stage b ≡ Due t → TreeGoes u below (Leaf b) H → RestGoes u below b.own.routine b.code b.stack (valued b.own.vars) H
+  pub unfailed : (below : List ℕ) (b : Branch) (H : Vars) (t : ℕ) → stage b ≡ Due t → TreeGoes u below (Leaf b) H → RestGoes u below b.own.routine b.code b.stack (valued b.own.vars) H
   unfailed below b H t e (inl failed) = absurd (subst (λ z. HasFailed u z) e failed)
   unfailed below b H t e (inr goes) = goes
 
   module _ (labels : Labels) (h : Objects Name) where
-    due-open : (x : Option (Close Held)) (s : Stage Held) (t n : ℕ) (l : Own) → stage_from x s t l ≡ Due n → has_end u labels h x ≡ false
+    pub due-open : (x : Option (Close Held)) (s : Stage Held) (t n : ℕ) (l : Own) → stage_from x s t l ≡ Due n → has_end u labels h x ≡ false
     due-open None s t n l e = refl
     due-open (Some (Returning v)) s t n l e = absurd (cc)
     due-open (Some (Failing x)) s t n l e = absurd (cc)
@@ -138,7 +138,7 @@ module _ (u : UnitCode) where
         rest : RestGoes u below b.own.routine b.code b.stack (valued b.own.vars) H
         rest = unfailed below b H d.0 d.1 goes
 
-        known : (y : ℕ) (r : Name) (n : ℕ) → slice_get b.own.vars y ≡ Some (Some (Reference r n)) → Refers u labels h w top (calls b.stack) (slice_get types y) y r
+        known : (y : ℕ) (r : Name) (n : ℕ) → slice_get b.own.vars y ≡ Some (Some (Reference r n)) → Refers u labels h w top (calls b.stack) (slice_get types y) y r n
         known y r n q = refers u labels h w top (calls b.stack) types b.own.vars y r n held q
 
         touch : (y : ℕ) (r : Name) (n : ℕ) → slice_get b.own.vars y ≡ Some (Some (Reference r n)) → MayTouch w top (labels r)

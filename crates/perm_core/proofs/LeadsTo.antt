@@ -9,7 +9,7 @@ use Rattle.perm_tree.specs.declared.ast.Ty.{Ty}
 use Rattle.perm_tree.specs.declared.ast.Ty.TheVariants.{Long, Bool as Boolean, Ref}
 use Rattle.perm_tree.specs.Code.{UnitCode}
 use Rattle.perm_rules.specs.Permissions.{may_change}
-use Rattle.perm_meaning.specs.Values.{Reference}
+use Rattle.perm_meaning.specs.Values.{Value, Reference}
 use Rattle.perm_meaning.specs.Names.{Name}
 use Rattle.perm_meaning.specs.Objects.{Objects}
 use Rattle.perm_meaning.specs.Machine.{Way, Here, GoL, GoR}
@@ -118,33 +118,44 @@ led-writes Immutable s w k x z r m e = absurd (cc)
 
 -- ---------- variables ----------
 module _ (u : UnitCode) (labels : Labels) (h : Objects Name) (w : Way) (z : Zone) (k : ℕ) where
-  -- a variable is a reference of this permission, and leads where that may lead
-  pub record Refers (t : Option Ty) (y : ℕ) (n : Name) : Type 0 where
+  -- a variable has this type, which its value fits
+  pub record Holds (t : Option Ty) (y : ℕ) (v : Value Name) : Type 0 where
+    pub type : Ty
+    pub is : t ≡ Some type
+    pub fits : value_fits h (λ p n. var_may_lead p (OfVariable w k y) z (labels n)) type v ≡ true
+
+  from-number : (x : ℕ) (ts : List Ty) (vs : List Held) (y : ℕ) (v : Value Name) → variables_fit u labels h z w k x ts vs ≡ true → slice_get vs y ≡ Some (Some v) → Holds (slice_get ts y) (x + y) v
+  from-number x [] [] y v fits e = none_some e
+  from-number x [] (a ∷ vs) y v fits e = absurd (cc)
+  from-number x (t ∷ ts) [] y v fits e = absurd (cc)
+  from-number x (t ∷ ts) (a ∷ vs) zero v fits e =
+      let first = (both (variable_fits u labels h z w k x t a) (variables_fit u labels h z w k (suc x) ts vs) fits).0 in
+      let same : x ≡ x + 0 = omega arith in
+      subst (λ i. Holds (Some t) i v) same (record { type = t; is = refl; fits = sym (ap (λ a. variable_fits u labels h z w k x t a) (some_inj e)) ∙ first })
+  from-number x (t ∷ ts) (a ∷ vs) (suc y) v fits e =
+      let others = (both (variable_fits u labels h z w k x t a) (variables_fit u labels h z w k (suc x) ts vs) fits).1 in
+      let same : suc x + y ≡ x + suc y = omega arith in
+      subst (λ i. Holds (slice_get ts y) i v) same (from-number (suc x) ts vs y v others e)
+
+  -- what is known of a variable with a value
+  pub holds : (ts : List Ty) (vs : List Held) (y : ℕ) (v : Value Name) → variables_fit u labels h z w k 0 ts vs ≡ true → slice_get vs y ≡ Some (Some v) → Holds (slice_get ts y) y v
+  holds ts vs y v fits e =
+      let same : 0 + y ≡ y = omega arith in
+      subst (λ i. Holds (slice_get ts y) i v) same (from-number 0 ts vs y v fits e)
+
+  -- a variable is a reference of this permission, to an object of its shape, and leads where the permission may lead
+  pub record Refers (t : Option Ty) (y : ℕ) (n : Name) (len : ℕ) : Type 0 where
     pub perm : Perm
     pub shape : Shape
     pub type : t ≡ Some (Ref perm shape)
+    pub shaped : has_shape (h n) shape len ≡ true
     pub leads : var_may_lead perm (OfVariable w k y) z (labels n) ≡ true
 
-  referring : (t : Ty) (y : ℕ) (n : Name) (len : ℕ) → value_fits h (λ p n. var_may_lead p (OfVariable w k y) z (labels n)) t (Reference n len) ≡ true → Refers (Some t) y n
+  referring : (t : Ty) (y : ℕ) (n : Name) (len : ℕ) → value_fits h (λ p n. var_may_lead p (OfVariable w k y) z (labels n)) t (Reference n len) ≡ true → Refers (Some t) y n len
   referring Long y n len e = absurd (cc)
   referring Boolean y n len e = absurd (cc)
-  referring (Ref p s) y n len e = record { perm = p; shape = s; type = refl; leads = (both (has_shape (h n) s len) (var_may_lead p (OfVariable w k y) z (labels n)) e).1 }
+  referring (Ref p s) y n len e = let x = both (has_shape (h n) s len) (var_may_lead p (OfVariable w k y) z (labels n)) e in record { perm = p; shape = s; type = refl; shaped = x.0; leads = x.1 }
 
-  from-number : (x : ℕ) (ts : List Ty) (vs : List Held) (y : ℕ) (n : Name) (len : ℕ) → variables_fit u labels h z w k x ts vs ≡ true → slice_get vs y ≡ Some (Some (Reference n len)) → Refers (slice_get ts y) (x + y) n
-  from-number x [] [] y n len fits e = none_some e
-  from-number x [] (v ∷ vs) y n len fits e = absurd (cc)
-  from-number x (t ∷ ts) [] y n len fits e = absurd (cc)
-  from-number x (t ∷ ts) (v ∷ vs) zero n len fits e =
-      let first = (both (variable_fits u labels h z w k x t v) (variables_fit u labels h z w k (suc x) ts vs) fits).0 in
-      let same : x ≡ x + 0 = omega arith in
-      subst (λ i. Refers (Some t) i n) same (referring t x n len (sym (ap (λ v. variable_fits u labels h z w k x t v) (some_inj e)) ∙ first))
-  from-number x (t ∷ ts) (v ∷ vs) (suc y) n len fits e =
-      let others = (both (variable_fits u labels h z w k x t v) (variables_fit u labels h z w k (suc x) ts vs) fits).1 in
-      let same : suc x + y ≡ x + suc y = omega arith in
-      subst (λ i. Refers (slice_get ts y) i n) same (from-number (suc x) ts vs y n len others e)
-
-  -- what a variable that refers is known of
-  pub refers : (ts : List Ty) (vs : List Held) (y : ℕ) (n : Name) (len : ℕ) → variables_fit u labels h z w k 0 ts vs ≡ true → slice_get vs y ≡ Some (Some (Reference n len)) → Refers (slice_get ts y) y n
-  refers ts vs y n len fits e =
-      let same : 0 + y ≡ y = omega arith in
-      subst (λ i. Refers (slice_get ts y) i n) same (from-number 0 ts vs y n len fits e)
+  -- what is known of a variable that refers
+  pub refers : (ts : List Ty) (vs : List Held) (y : ℕ) (n : Name) (len : ℕ) → variables_fit u labels h z w k 0 ts vs ≡ true → slice_get vs y ≡ Some (Some (Reference n len)) → Refers (slice_get ts y) y n len
+  refers ts vs y n len fits e = let x = holds ts vs y (Reference n len) fits e in subst (λ t. Refers t y n len) (sym x.is) (referring x.type y n len x.fits)

@@ -33,7 +33,7 @@ set-loses (w ∷ vs) zero (suc y) v e = e
 set-loses (w ∷ vs) (suc x) zero v e = e
 set-loses (w ∷ vs) (suc x) (suc y) v e = set-loses vs x y v e
 
-clear-loses : (vs : List Held) (x : ℕ) → Lose vs (clear tagged vs x)
+pub clear-loses : (vs : List Held) (x : ℕ) → Lose vs (clear tagged vs x)
 clear-loses vs x = go (slice_get vs x)
   where
     go : (v : Option Held) → Lose vs (slice_set vs x (cleared_slot tagged v))

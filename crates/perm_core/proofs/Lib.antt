@@ -1,5 +1,6 @@
 pub mod Bags
-mod Conflicts
+pub mod Conflicts
+mod Evaluation
 pub mod FewEvents
 pub mod HeldEvents
 pub mod Hiding
@@ -11,10 +12,12 @@ pub mod PictureTest
 mod LeadsTo
 pub mod LeafOperations
 mod NamesToCome
+mod NextEvents
 mod OpeningPicture
 pub mod PieceEvents
 mod Pictures
 pub mod RegionPrograms
+pub mod Progress
 mod RightSides
 pub mod Schedules
 mod Shortages
@@ -22,6 +25,7 @@ mod ShownRuns
 mod TwoEvents
 pub mod TwoNodes
 pub mod TwoOperations
+pub mod Unstuck
 pub mod WholeCode
 pub mod WholeTypes
 pub mod WholeUnits

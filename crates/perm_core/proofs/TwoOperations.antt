@@ -40,7 +40,7 @@ sets-turned (x ∷ xs) zero (suc g) v w d = refl
 sets-turned (x ∷ xs) (suc f) zero v w d = refl
 sets-turned (x ∷ xs) (suc f) (suc g) v w d = ap (λ z. x ∷ z) (sets-turned xs f g v w (λ e. d (ap (λ z. suc z) e)))
 
-get-beside : {A : Type 0} (vs : List A) (f g : ℕ) (v : A) → (f ≡ g → ⊥) → slice_get (slice_set vs f v) g ≡ slice_get vs g
+pub get-beside : {A : Type 0} (vs : List A) (f g : ℕ) (v : A) → (f ≡ g → ⊥) → slice_get (slice_set vs f v) g ≡ slice_get vs g
 get-beside [] f g v d = refl
 get-beside (x ∷ xs) zero zero v d = absurd (d refl)
 get-beside (x ∷ xs) zero (suc g) v d = refl
