@@ -8,8 +8,8 @@ use Rattle.perm_meaning.specs.Effects.{Make}
 use Rattle.perm_meaning.specs.NamedHeap as named
 use Rattle.perm_meaning.specs.NamedHeap.{Op, Task, State, has_room}
 use Rattle.perm_meaning.specs.Steps.{Lone, Run, lone_task, lone_way, lone_on, lone_of, within}
-use Rattle.perm_meaning.specs.Outcome.{RanFull, outcome, opening_need}
-use Rattle.perm_core.specs.Core.{look, step, runs, IsLawful, IsComplete, opening_state, core_outcome, Conflict}
+use Rattle.perm_meaning.specs.Outcome.{opening_need}
+use Rattle.perm_core.specs.Core.{look, step, runs, IsLawful, opening_state, Conflict}
 use Rattle.perm_meaning.specs.WordHeap as worded
 use Rattle.perm_core.specs.WordCore as word_core
 use Rattle.perm_meaning.specs.Literals.{NumbersFit, UnitFits}
@@ -17,7 +17,7 @@ use Rattle.perm_meaning.specs.Shows.{Bases, Grows, IsShown, IsShownBy}
 use Rattle.perm_core.specs.Whole.{IsWhole}
 use Rattle.perm_core.specs.Picture.{IsPicture}
 use Rattle.perm_core.specs.Regions.{Labels}
-use Rattle.perm_core.specs.NextPicture.{next_picture, first_picture}
+use Rattle.perm_core.specs.NextPicture.{first_picture}
 use Rattle.perm_core.specs.Bag.{Picks, IsIn, IsDistinct}
 use Rattle.perm_core.specs.Pieces.{Foot, OnRightSide, Numbered, Piece, Held, held_task, pieces, numbers, AllOver, IsAsideIn}
 
@@ -43,10 +43,6 @@ module _ (u : UnitCode) (limit : ℕ) where
   -- the opening has a picture
   abbrev pub OpensWithPicture : List ℤ → ℕ → Type 0
   OpensWithPicture input turns = (r : Routine) → IsChecked u → Opens input r → IsPicture u first_picture (opening_state u input turns r)
-
-  -- each event leads from a state with a picture to one with the next picture
-  abbrev pub KeepsPicture : Type 0
-  KeepsPicture = (labels : Labels) (s t : State) (w : Way) → IsChecked u → IsPicture u labels s → step u limit s w ≡ Some t → IsPicture u (next_picture u limit labels s w) t
 
   -- a state with a picture has no conflict
   abbrev pub HasNoConflict : Type 0
@@ -75,24 +71,9 @@ module _ (u : UnitCode) (limit : ℕ) where
   EitherOrder = (labels : Labels) (s a b : State) (p q : Way) → IsPicture u labels s → p ≢ q → step u limit s p ≡ Some a → step u limit s q ≡ Some b
       → (Refuses a q → ⊥) → (Refuses b p → ⊥) → (t : State) × (step u limit a q ≡ Some t) × (step u limit b p ≡ Some t)
 
-  -- an event of the list is a refused allocation
-  abbrev pub SomeRefused : List Way → State → Type 0
-  SomeRefused [] s = ⊥
-  SomeRefused (w ∷ ws) s = Refuses s w ⊎ ((t : State) × (step u limit s w ≡ Some t) × SomeRefused ws t)
-
-  -- every complete list of events ends as running left then right does
-  abbrev pub EndsLeftThenRight : List ℤ → ℕ → Type 0
-  EndsLeftThenRight input turns = (r : Routine) (ws : List Way) (t : State) → IsChecked u → Opens input r → runs u limit ws (opening_state u input turns r) ≡ Some t → (f : Final named.Held) → final t.task ≡ Some f
-      → core_outcome turns t ≡ Some (outcome u input turns limit)
-
   -- a list has at most twice as many events as there are turns
   abbrev pub FewEvents : List ℤ → ℕ → Type 0
   FewEvents input turns = (r : Routine) (ws : List Way) → IsLawful u limit ws (opening_state u input turns r) → length ws ≤ 2 * turns
-
-  -- a refused allocation comes in a complete list where the heap doesn't hold the run, and only there
-  abbrev pub RefusedWhereFull : List ℤ → ℕ → Type 0
-  RefusedWhereFull input turns = (r : Routine) (ws : List Way) → IsChecked u → Opens input r → IsComplete u limit ws (opening_state u input turns r)
-      → (SomeRefused ws (opening_state u input turns r) → outcome u input turns limit ≡ RanFull) × (outcome u input turns limit ≡ RanFull → SomeRefused ws (opening_state u input turns r))
 
   -- ---------- words ----------
   -- the run on this input begins with the body of this method, bases have 32 bits, and the numbers of the code and of the input have 64 bits

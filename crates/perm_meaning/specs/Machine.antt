@@ -252,12 +252,3 @@ module _ {V G O : Type 0} (m : Machine V G O) where
   fill (GoL w) (Fork b p l r) v = Fork b p (fill w l v) r
   fill (GoR w) (Leaf b) v = Leaf b
   fill (GoR w) (Fork b p l r) v = Fork b p l (fill w r v)
-
-  -- a leaf that isn't over and has no event
-  abbrev pub IsStuck : Way → Task V G → Type 0
-  IsStuck Here (Leaf b) = (over (stage b) ≡ None) × (leaf_op b (stage b) ≡ None)
-  IsStuck Here (Fork b p l r) = ⊥
-  IsStuck (GoL w) (Leaf b) = ⊥
-  IsStuck (GoL w) (Fork b p l r) = IsStuck w l
-  IsStuck (GoR w) (Leaf b) = ⊥
-  IsStuck (GoR w) (Fork b p l r) = IsStuck w r

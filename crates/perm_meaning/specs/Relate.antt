@@ -1,7 +1,6 @@
 -- Two machines that go step by step alike, the one's variables holding V and the other's W: as words and what they show. R says which shows which, and S the same of what branches bear for names.
 use Rattle.std.specs.Prelude.{◌≡◌, List, [], ◌∷◌, Option, Some, None}
 use Rattle.perm_meaning.specs.Machine.{Own, Frame, OpenBlock, OpenRecover, OpenCall, Close, Returning, Failing, Branch, Task, Leaf, Fork, Final, Fine, GaveBack, Failed, Did, On, Splits, Ends, Dies, Turn, Takes, NoTurn}
-use Rattle.perm_meaning.specs.Steps.{Answer, Found, Refused, Missing}
 
 module _ {V W : Type 0} (R : V → W → Type 0) where
   -- both are there and related, or neither is
@@ -43,13 +42,6 @@ module _ {V W : Type 0} (R : V → W → Type 0) where
   FinalR (GaveBack v t p) (GaveBack w u q) = R v w × (t ≡ u) × (p ≡ q)
   FinalR (Failed e t p) (Failed f u q) = (e ≡ f) × (t ≡ u) × (p ≡ q)
   FinalR _ _ = ⊥
-
-  -- the same of answers; of a field that isn't there nothing is said
-  abbrev pub AnswerR : Answer V → Answer W → Type 0
-  AnswerR (Found v) (Found w) = R v w
-  AnswerR Refused Refused = Unit {0}
-  AnswerR Missing answer = Unit {0}
-  AnswerR _ _ = ⊥
 
   module _ {G K : Type 0} (S : G → K → Type 0) where
     -- the same of what turns may change

@@ -63,9 +63,3 @@ pub record IsShownBy (b : Bases) (s : named.State) (t : worded.State) : Type 0 w
 -- a state on words shows a state on names
 abbrev pub IsShown : named.State → worded.State → Type 0
 IsShown s t = (b : Bases) × IsShownBy b s t
-
--- two states on words match: their objects of one name have the same values, and so have all variables
-pub record Match (t t' : worded.State) : Type 0 where
-  pub state : named.State
-  pub first : IsShown state t
-  pub second : IsShown state t'

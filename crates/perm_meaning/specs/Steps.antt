@@ -22,10 +22,6 @@ pub record State (V G H : Type 0) : Type 0 where
 abbrev pub within : ℕ → ℕ → Bool
 within limit n = nat_le n limit
 
--- a heap without a size
-abbrev pub always : ℕ → Bool
-always n = true
-
 -- the left side first, then the right one, then the parent
 abbrev pub leftmost_of : {V : Type 0} → Option (Final V) → Option (Final V) → Way → Way → Way
 leftmost_of None y l r = GoL l
@@ -176,10 +172,6 @@ AreOver {V} {G} (KeptLeft b p l r) = ((f : Final V) × (final {G = G} (Leaf l) �
 pub record Solo (V G H : Type 0) : Type 0 where
   pub holder : Lone V G
   pub heap : H
-
--- the state of a tree with one holder
-abbrev pub solo_state : {V G H : Type 0} → Solo V G H → State V G H
-solo_state x = record { task = lone_task x.holder; heap = x.heap }
 
 module _ {V G O H : Type 0} (m : Machine V G O) (memory : Memory V O H) (fits : ℕ → Bool) where
   -- what the holder has after an event that is told v, or refused
