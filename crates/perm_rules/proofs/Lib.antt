@@ -5,6 +5,8 @@ mod PlaceExamples
 mod KindExamples
 pub mod Truth
 pub mod Scoped
+pub mod Beginnings
+pub mod Locals
 pub mod StandingTerms
 pub mod ApartCodes
 pub mod ApartStatements

@@ -5,6 +5,7 @@ pub mod Shapes
 pub mod Permissions
 pub mod Pars
 pub mod Sharing
+pub mod Scoping
 pub mod Refusals
 pub mod Effects
 pub mod Goes
