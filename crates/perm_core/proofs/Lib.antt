@@ -3,9 +3,6 @@ pub mod Conflicts
 mod Evaluation
 pub mod FewEvents
 pub mod HeldEvents
-pub mod Hiding
-pub mod HidingCodes
-pub mod HidingStatements
 pub mod Holes
 mod Interleavings
 pub mod PictureTest
@@ -32,3 +29,5 @@ pub mod WholeUnits
 mod WordRuns
 pub mod WordsShown
 mod ZonesApart
+pub mod KeepsPicture
+mod Examples

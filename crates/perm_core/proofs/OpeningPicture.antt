@@ -23,10 +23,11 @@ use Rattle.perm_meaning.proofs.Leads.{some_inj, none_some}
 use Rattle.perm_meaning.proofs.SameName.{eq_itself, name_true, together}
 use Rattle.perm_core.specs.Core.{opening_state}
 use Rattle.perm_core.specs.Endings.{ByReturn, ends, is_settled}
-use Rattle.perm_core.specs.Marked.{hides_right}
+use Rattle.perm_rules.specs.Scoping.{is_scoped}
+use Rattle.perm_core.specs.Marked.{calls_right}
 use Rattle.perm_core.specs.Whole.{IsWholeRoutine, IsRun}
 use Rattle.perm_core.specs.Regions.{Zone, Base, Absent, Frozen, OwnOf, Labels, is_absent}
-use Rattle.perm_core.specs.Picture.{context_if, context_of, value_fits, variable_fits, variables_fit, fields_fit, class_fits, is_number, object_fits, has_value, valued, CodeGoes, MayGive, next, later, IsPicture}
+use Rattle.perm_core.specs.Picture.{context_if, context_of, value_fits, variable_fits, variables_fit, fields_fit, class_fits, is_number, object_fits, has_value, valued, code_right, MayGive, next, later, IsPicture}
 use Rattle.perm_core.specs.NextPicture.{first_picture}
 use Rattle.perm_core.specs.Claims.{IsChecked, Opens, OpensWithPicture}
 
@@ -88,7 +89,7 @@ module _ (u : UnitCode) (limit : ℕ) (input : List ℤ) (turns : ℕ) (r : Rout
   routine = checked.whole.routines u.run r opens.run
 
   run : IsRun u r
-  run = checked.whole.run r opens.run
+  run = subst (IsRun u) (some_inj (sym checked.whole.there ∙ opens.run)) checked.whole.run
 
   types : r.vars ≡ Ref Writable (Class u.main) ∷ (Ref Immutable Array ∷ routine.locals)
   types = routine.vars ∙ (λ i. Ref (run.receiver i) (Class (run.class i)) ∷ (run.params i ++ routine.locals))
@@ -165,13 +166,15 @@ module _ (u : UnitCode) (limit : ℕ) (input : List ℤ) (turns : ℕ) (r : Rout
       two (suc zero) = refl
       two (suc (suc x)) = sym (unset-dead (length routine.locals) x)
 
-  goes : (H : Vars) × CodeGoes (context_of u u.run) r.code (valued held) H
+  goes : (H : Vars) × Goes (context_of u u.run) r.code (valued held) H
   goes =
-      let d = derived u u.routines u.run r checked.accepted opens.run in (
-        d.0,
-        subst (λ q. CodeGoes (context_if u q) r.code (valued held) d.0) (sym opens.run)
-            (record { goes = subst (λ G. Goes (context u r) r.code G d.0) live d.1; calls = routine.calls; hides = ap (λ G. hides_right (context u r) r.code G) (sym live) ∙ routine.hides }),
-      )
+      let d = derived u u.routines u.run r checked.accepted opens.run in
+      (d.0, subst (λ q. Goes (context_if u q) r.code (valued held) d.0) (sym opens.run) (subst (λ G. Goes (context u r) r.code G d.0) live d.1))
+
+  right : code_right (context_of u u.run) r.code (valued held) ≡ true
+  right =
+      subst (λ q. code_right (context_if u q) r.code (valued held) ≡ true) (sym opens.run)
+      (together (calls_right (context u r) r.code) (is_scoped (context u r) r.code (valued held)) routine.calls (ap (λ G. is_scoped (context u r) r.code G) (sym live) ∙ routine.scoped))
 
   first-picture : IsPicture u first_picture (opening_state u input turns r)
   first-picture =
@@ -180,6 +183,9 @@ module _ (u : UnitCode) (limit : ℕ) (input : List ℤ) (turns : ℕ) (r : Rout
         objects = an-object;
         goes = (goes.0, inr goes.1);
         ends = together (is_settled r.code []) (ends ByReturn r.code) (settled r.code) routine.returns;
+        right = right;
+        hidden = refl;
+        stand = refl;
         new = new-names;
         paths = tt;
       }

@@ -10,7 +10,7 @@ use Rattle.perm_tree.specs.UnitTables.{Tables}
 use Rattle.perm_tree.proofs.RoutineLaws.{HasVars, IsResolved-vars}
 use Rattle.perm_tree.proofs.RunLaw.{HasRun, IsResolved-run, good_run-types}
 use Rattle.perm_core.specs.Whole.{IsWholeRoutine, IsRun, IsWhole}
-use Rattle.perm_core.proofs.Hiding.{IsResolved-hides}
+use Rattle.perm_rules.proofs.ApartUnits.{IsResolved-scoped}
 use Rattle.perm_core.proofs.WholeCode.{IsResolved-returns, IsResolved-calls}
 use Rattle.perm_core.proofs.WholeTypes.{IsResolved-known, IsResolved-fields, method-class_within}
 
@@ -24,7 +24,7 @@ routine-whole u at r is here = by_vars (IsResolved-vars u at r is here)
       known = IsResolved-known u at r is here;
       returns = IsResolved-returns u at r here is;
       calls = IsResolved-calls u at r here is;
-      hides = IsResolved-hides u at r is here;
+      scoped = IsResolved-scoped u at r is here;
     }
 
 -- the class Main is there
@@ -34,11 +34,8 @@ main-there u run =
     (subst (λ n. n < length u.program.classes) run.class (method-class_within u run.table run.«method» run.is))
 
 -- its Run is that of the unit
-run-right : (u : Tables) → HasRun u → (r : Routine) → slice_get (code_of u).routines (code_of u).run ≡ Some r → IsRun (code_of u) r
-run-right u run r here =
-    let same : routine u run.table run.«method» ≡ r = let found = run.routine in cc (found, here) in
-    let types = good_run-types run.«method» run.good in
-    subst (IsRun (code_of u)) same (record { class = run.class; receiver = types.2; params = types.1; result = types.0 })
+run-right : (u : Tables) (run : HasRun u) → IsRun (code_of u) (routine u run.table run.«method»)
+run-right u run = let types = good_run-types run.«method» run.good in record { class = run.class; receiver = types.2; params = types.1; result = types.0 }
 
 -- so the whole code
 pub resolved-whole : (u : Tables) → IsResolved u → IsWhole (code_of u)
@@ -46,5 +43,7 @@ resolved-whole u is = record {
   routines = λ at r here. routine-whole u at r is here;
   fields = IsResolved-fields u is;
   main = main-there u (IsResolved-run u is);
+  first = routine u (IsResolved-run u is).table (IsResolved-run u is).«method»;
+  there = (IsResolved-run u is).routine;
   run = run-right u (IsResolved-run u is);
 }

@@ -1,5 +1,5 @@
 -- The picture after an event: which regions take another label, and what label a new object gets.
-use Rattle.std.specs.Prelude.{ℕ, zero, suc, Bool, true, false, List, [], ◌∷◌, ◌++◌, length, map, slice_get, Option, Some, None, cond}
+use Rattle.std.specs.Prelude.{ℕ, zero, suc, Bool, true, false, List, [], ◌&&◌, nat_eq, ◌∷◌, ◌++◌, length, map, slice_get, Option, Some, None, cond}
 use Rattle.perm_tree.specs.declared.ast.Perm.{Perm}
 use Rattle.perm_tree.specs.declared.ast.Perm.TheVariants.{Isolated, Immutable, Readable, Writable}
 use Rattle.perm_tree.specs.declared.ast.Ty.{Ty}
@@ -19,22 +19,46 @@ use Rattle.perm_meaning.specs.Turns.{blocks}
 use Rattle.perm_meaning.specs.NamedHeap.{Held, Op, Branch, Task, State, Heap, has_room}
 use Rattle.perm_meaning.specs.Steps.{within}
 use Rattle.perm_core.specs.Core.{core, look}
-use Rattle.perm_core.specs.Regions.{Zone, Base, Under, Region, Absent, Frozen, OwnOf, OfVariable, OfField, Loose, Labels, same_region, begins_zone, calls, zones, top_zone, left_zone, right_zone}
+use Rattle.perm_core.specs.Regions.{Zone, Base, Under, Region, Absent, Frozen, OwnOf, OfVariable, OfField, Loose, Labels, same_way, same_zone, same_region, begins_zone, calls, zones, top_zone, left_zone, right_zone}
 use Rattle.perm_core.specs.Picture.{context_of, mode_in}
 
--- regions that take another label, one after the other
+-- a region that takes another label; all regions of zones that begin where a zone ends, which take one label; or a zone that becomes another, also where it stands round others
+pub data Renaming : Type 0 where
+  Moves : (from to : Region) → Renaming
+  Ends : (w : Way) (k : ℕ) (to : Region) → Renaming
+  Joins : (y z : Zone) → Renaming
+
+-- renamings, one after the other
 abbrev pub Renamings : Type 0
-Renamings = List (Region × Region)
+Renamings = List Renaming
 
 -- what an event does to the labels
 pub record Change : Type 0 where
   pub moves : Renamings
   pub new : Option (Name × Region)
 
+-- the outermost zone round a zone, or itself, is this one
+abbrev pub is_rooted : Way → ℕ → Zone → Bool
+is_rooted w k (Base v j) = same_way v w && nat_eq j k
+is_rooted w k (Under v z) = is_rooted w k z
+
+-- what becomes of a zone where y becomes z
+abbrev pub zone_joined : Zone → Zone → Zone → Zone
+zone_joined y z (Base v j) = cond (same_zone (Base v j) y) z (Base v j)
+zone_joined y z (Under v x) = cond (same_zone (Under v x) y) z (Under v (zone_joined y z x))
+
+-- the label after one renaming
+abbrev pub renamed : Renaming → Region → Region
+renamed (Moves from to) r = cond (same_region r from) to r
+renamed (Ends w k to) (OwnOf z) = cond (is_rooted w k z) to (OwnOf z)
+renamed (Ends w k to) r = r
+renamed (Joins y z) (OwnOf x) = OwnOf (zone_joined y z x)
+renamed (Joins y z) r = r
+
 -- the label after the renamings
 abbrev pub moved : Renamings → Region → Region
 moved [] r = r
-moved (m ∷ ms) r = moved ms (cond (same_region r m.0) m.1 r)
+moved (m ∷ ms) r = moved ms (renamed m r)
 
 -- the label of a new object, and what the others keep
 abbrev pub label_new : Option (Name × Region) → Name → Region → Region
@@ -78,7 +102,7 @@ goal_into c w z st (Some x) = goal_at c w z st x
 -- the region of an isolated variable that is consumed moves
 abbrev pub consumed_moves : Context → Way → ℕ → Argument → Region → Renamings
 consumed_moves c w k (Expression e) to = []
-consumed_moves c w k (Consumed y) to = cond (has_isolated (type_of c y)) ((OfVariable w k y, to) ∷ []) []
+consumed_moves c w k (Consumed y) to = cond (has_isolated (type_of c y)) (Moves (OfVariable w k y) to ∷ []) []
 
 -- arguments go to the parameters from number x on, which stand above k open calls and in zone z
 abbrev pub arguments_moves : Context → Way → ℕ → ℕ → List Argument → List Ty → Zone → Renamings
@@ -93,7 +117,7 @@ zone_of_call tie w z st = cond (begins_zone tie) (Base w (suc (zones st))) (top_
 
 -- the region of a lent receiver becomes that of the call's zone; one that is consumed goes to `this`
 abbrev pub receiver_moves : Context → Way → ℕ → Tie → Bool → ℕ → Perm → Zone → Renamings
-receiver_moves c w k Lends consumed y r z = (OfVariable w k y, OwnOf z) ∷ []
+receiver_moves c w k Lends consumed y r z = Moves (OfVariable w k y) (OwnOf z) ∷ []
 receiver_moves c w k tie true y r z = consumed_moves c w k (Consumed y) (goal r (OfVariable w (suc k) 0) (OwnOf z))
 receiver_moves c w k tie false y r z = []
 
@@ -115,11 +139,11 @@ ended_to (Some Readable) to = Frozen
 ended_to (Some Writable) to = to
 ended_to _ to = Loose
 
--- the own region of a call's zone: it stays where the call shares, and goes back to the lent variable where it lends
-abbrev pub tie_moves : Tie → Zone → Way → ℕ → ℕ → Ty → Region → Renamings
-tie_moves Shares z w k y t to = []
-tie_moves Raises z w k y t to = (OwnOf z, ended_to (perm_of (Some t)) to) ∷ []
-tie_moves Lends z w k y t to = (OwnOf z, OfVariable w k y) ∷ []
+-- the regions of the zone of a call, above a stack with so many zones: they stay where the call shares, and go back to the lent variable where it lends
+abbrev pub tie_moves : Tie → ℕ → Way → ℕ → ℕ → Ty → Region → Renamings
+tie_moves Shares j w k y t to = []
+tie_moves Raises j w k y t to = Ends w (suc j) (ended_to (perm_of (Some t)) to) ∷ []
+tie_moves Lends j w k y t to = Ends w (suc j) (OfVariable w k y) ∷ []
 
 module _ (u : UnitCode) (labels : Labels) where
   -- ---------- simple statements ----------
@@ -146,8 +170,8 @@ module _ (u : UnitCode) (labels : Labels) where
   abbrev pub instruction_change : Context → Way → Zone → Branch → Instruction → Change
   instruction_change c w z b (Assign x a) = moving (consumed_moves c w (calls b.stack) a (goal_at c w z b.stack x))
   instruction_change c w z b (LoadField x y f) =
-      cond (is_immutable (type_of c y)) (cond (has_isolated (field_in c.classes (type_of c y) f)) (moving ((field_region (slice_get b.own.vars y) f, Frozen) ∷ [])) no_change) no_change
-  instruction_change c w z b (TakeField x y f) = moving ((field_region (slice_get b.own.vars y) f, goal_at c w z b.stack x) ∷ [])
+      cond (is_immutable (type_of c y)) (cond (has_isolated (field_in c.classes (type_of c y) f)) (moving (Moves (field_region (slice_get b.own.vars y) f) Frozen ∷ [])) no_change) no_change
+  instruction_change c w z b (TakeField x y f) = moving (Moves (field_region (slice_get b.own.vars y) f) (goal_at c w z b.stack x) ∷ [])
   instruction_change c w z b (NewObject x k) = new_label c w z b x
   instruction_change c w z b (NewArray x n) = new_label c w z b x
   instruction_change c w z b (StoreField y f a) =
@@ -160,14 +184,14 @@ module _ (u : UnitCode) (labels : Labels) where
   abbrev pub give_moves : Context → Way → Zone → ℕ → ℕ → List (Frame Held) → Renamings
   give_moves c w z v x [] = []
   give_moves c w z v x (f ∷ st) =
-      consumed_moves c w (calls st) (Consumed v) (goal_at c w z st x) ++ (OwnOf (top_zone w z (f ∷ st)), ended_to (perm_of (type_of c v)) (goal_at c w z st x)) ∷ []
+      consumed_moves c w (calls st) (Consumed v) (goal_at c w z st x) ++ Ends w (suc (zones st)) (ended_to (perm_of (type_of c v)) (goal_at c w z st x)) ∷ []
 
   -- a consumed result goes into what takes it, and then the call's zone ends
   abbrev pub return_moves : Context → Way → Zone → Argument → List (Frame Held) → Renamings
   return_moves c w z a (OpenCall tie into y saved lent caller rest ∷ st) =
       let from : Zone = top_zone w z (OpenCall tie into y saved lent caller rest ∷ st) in
       let to : Region = goal_into (context_of u caller) w z st into in
-      consumed_moves c w (suc (calls st)) a (goal_of (Some c.result) to (OwnOf from)) ++ tie_moves tie from w (calls st) y c.result to
+      consumed_moves c w (suc (calls st)) a (goal_of (Some c.result) to (OwnOf from)) ++ tie_moves tie (zones st) w (calls st) y c.result to
   return_moves c w z a _ = []
 
   -- ---------- pars ----------
@@ -182,7 +206,7 @@ module _ (u : UnitCode) (labels : Labels) where
 
   -- isolated variables are handed from a frame at one node to a frame at another
   abbrev pub handed : Way → ℕ → Way → ℕ → List ℕ → Renamings
-  handed w k v j xs = map (λ x. (OfVariable w k x, OfVariable v j x)) xs
+  handed w k v j xs = map (λ x. Moves (OfVariable w k x) (OfVariable v j x)) xs
 
   -- the isolated variables that stand in a block are handed to its side
   abbrev pub par_moves : Context → (Way → Way) → List (Frame Held) → Blocks → Renamings
@@ -192,9 +216,9 @@ module _ (u : UnitCode) (labels : Labels) where
 
   -- the own regions of sides that began a zone are added to the parent's
   abbrev pub zone_moves : ParMode → Way → Way → Zone → Renamings
-  zone_moves Symmetric l r z = (OwnOf (Under l z), OwnOf z) ∷ (OwnOf (Under r z), OwnOf z) ∷ []
-  zone_moves LeftAlone l r z = (OwnOf (Base l 0), OwnOf z) ∷ []
-  zone_moves RightAlone l r z = (OwnOf (Base r 0), OwnOf z) ∷ []
+  zone_moves Symmetric l r z = Joins (Under l z) z ∷ Joins (Under r z) z ∷ []
+  zone_moves LeftAlone l r z = Joins (Base l 0) z ∷ []
+  zone_moves RightAlone l r z = Joins (Base r 0) z ∷ []
 
   -- what comes back from the sides is handed to the parent, and their regions are added to its own
   abbrev pub join_moves : Context → (Way → Way) → Zone → Branch → Blocks → Renamings

@@ -6,13 +6,14 @@ use Rattle.perm_tree.specs.declared.ast.Shape.{Shape}
 use Rattle.perm_tree.specs.declared.ast.Shape.TheVariants.{Class, Array}
 use Rattle.perm_tree.specs.declared.ast.Ty.{Ty}
 use Rattle.perm_tree.specs.declared.ast.Ty.TheVariants.{Long, Bool as Boolean, Ref}
-use Rattle.perm_tree.specs.Code.{Code, Routine, UnitCode, Tie, Lends}
+use Rattle.perm_tree.specs.Code.{Code, Routine, UnitCode, Tie, Shares, Raises, Lends}
 use Rattle.perm_tree.specs.CodeOf.{is_tied}
-use Rattle.perm_tree.specs.Vars.{Vars, none, just, those, plus, minus}
+use Rattle.perm_tree.specs.Mentions.{mentioned}
+use Rattle.perm_tree.specs.Vars.{Vars, none, just, those, plus, minus, some_below}
 use Rattle.perm_perm.specs.Types.{fits}
 use Rattle.perm_tree.specs.Shapes.{same_shape}
 use Rattle.perm_rules.specs.declared.ParMode.{ParMode}
-use Rattle.perm_rules.specs.Parts.{Context, type_of, if_both_known}
+use Rattle.perm_rules.specs.Parts.{Context, type_of, if_both_known, has_isolated}
 use Rattle.perm_rules.specs.Permissions.{call_type}
 use Rattle.perm_rules.specs.Pars.{uses, mode_of}
 use Rattle.perm_rules.specs.Goes.{Goes, hiding, context}
@@ -20,10 +21,11 @@ use Rattle.perm_meaning.specs.Values.{Value, Number, Truth, Null, Reference}
 use Rattle.perm_meaning.specs.Names.{Name, Path, Side, OnLeft, OnRight, Mark}
 use Rattle.perm_meaning.specs.Objects.{Object, Objects}
 use Rattle.perm_meaning.specs.Machine.{Frame, OpenBlock, OpenRecover, OpenCall, Blocks, Close, Leaf, Fork, Way, Here, GoL, GoR, Stage, Over, Failed, stage}
-use Rattle.perm_meaning.specs.Custody.{back_l, back_r}
+use Rattle.perm_meaning.specs.Custody.{mentions_l, mentions_r, back_l, back_r}
 use Rattle.perm_meaning.specs.NamedHeap.{Held, Branch, Task, State}
-use Rattle.perm_core.specs.Endings.{ByReturn, tree_ends}
-use Rattle.perm_core.specs.Marked.{calls_right, hides_right}
+use Rattle.perm_core.specs.Endings.{ByReturn, is_open, tree_ends}
+use Rattle.perm_rules.specs.Scoping.{given, is_scoped, hides_tied, has_none}
+use Rattle.perm_core.specs.Marked.{calls_right}
 use Rattle.perm_core.specs.Regions.{Zone, Base, OwnOf, OfVariable, OfField, Labels, same_region, is_absent, var_may_lead, field_may_lead, calls, zones, top_zone, left_zone, right_zone}
 
 -- ---------- methods by number ----------
@@ -79,6 +81,13 @@ module _ (u : UnitCode) (labels : Labels) (h : Objects Name) where
   lent_fits z t None = true
   lent_fits z None (Some (Some v)) = false
 
+  -- something is lent only where the call lends, and then the lent variable is isolated
+  abbrev pub lent_right : Tie → Option Ty → Option Held → Bool
+  lent_right tie t None = true
+  lent_right Lends t (Some v) = has_isolated t
+  lent_right Shares t (Some v) = false
+  lent_right Raises t (Some v) = false
+
   -- no variable takes the result
   abbrev pub is_dropped : Option ℕ → Bool
   is_dropped None = true
@@ -101,7 +110,7 @@ module _ (u : UnitCode) (labels : Labels) (h : Objects Name) where
   stack_fits w z m (OpenRecover own hides saved rest ∷ st) = variables_fit (top_zone w z st) w (calls st) 0 (context_of u m).vars saved && stack_fits w z m st
   stack_fits w z m (OpenCall tie into y saved lent caller rest ∷ st) =
       variables_fit (top_zone w z st) w (calls st) 0 (context_of u caller).vars saved
-      && (lent_fits (Base w (suc (zones st))) (type_of (context_of u caller) y) lent
+      && ((lent_right tie (type_of (context_of u caller) y) lent && lent_fits (Base w (suc (zones st))) (type_of (context_of u caller) y) lent)
       && (result_fits tie (context_of u m).result into caller && stack_fits w z caller st))
 
   -- the branch has an end
@@ -155,7 +164,7 @@ has_value None = false
 has_value (Some None) = false
 has_value (Some (Some v)) = true
 
--- the variables that have a value, which are the live ones
+-- the variables that have a value; each live one has one, and a value may outlast its liveness
 abbrev pub valued : List Held → Vars
 valued vs x = has_value (slice_get vs x)
 
@@ -194,12 +203,6 @@ routine_below (OpenBlock own rest) m = m
 routine_below (OpenRecover own hides saved rest) m = m
 routine_below (OpenCall tie into y saved lent caller rest) m = caller
 
--- from the live set G the code goes to H, and what it says of its calls and recover blocks is right
-pub record CodeGoes (c : Context) (a : Code) (G H : Vars) : Type 0 where
-  pub goes : Goes c a G H
-  pub calls : calls_right c a ≡ true
-  pub hides : hides_right c a G ≡ true
-
 module _ (u : UnitCode) where
   -- what the code above a stack is checked by
   abbrev pub context_above : List ℕ → ℕ → List (Frame Held) → Context
@@ -207,9 +210,9 @@ module _ (u : UnitCode) where
 
   -- the code of method m goes from G, and so does all that stands below it, in the end to H
   abbrev pub RestGoes : List ℕ → ℕ → Code → List (Frame Held) → Vars → Vars → Type 0
-  RestGoes below m c [] G H = CodeGoes (context_above below m []) c G H
+  RestGoes below m c [] G H = Goes (context_above below m []) c G H
   RestGoes below m c (f ∷ st) G H =
-      (K : Vars) × CodeGoes (context_above below m (f ∷ st)) c G K × RestGoes below (routine_below f m) (rest_of f) st (live_after f K) H
+      (K : Vars) × Goes (context_above below m (f ∷ st)) c G K × RestGoes below (routine_below f m) (rest_of f) st (live_after f K) H
 
   -- what is live after a join: what comes back from a side is live where it was there
   abbrev pub live_joined : ℕ → Blocks → Vars → Vars → Vars → Vars
@@ -226,6 +229,76 @@ module _ (u : UnitCode) where
   TreeGoes below (Fork b p l r) H =
       (H1 : Vars) × (H2 : Vars) × TreeGoes (hidden_above below b.stack) l H1 × TreeGoes (hidden_above below b.stack) r H2
       × RestGoes below b.own.routine b.code b.stack (live_joined b.own.routine p (valued b.own.vars) H1 H2) H
+
+-- ---------- what may have a value ----------
+-- what may have a value where the code below a frame goes on, where the code above it is entered with at most U
+abbrev pub grown : Frame Held → Code → Vars → Vars
+grown (OpenBlock own rest) c U = minus (plus U (mentioned c)) (those own)
+grown (OpenRecover own hides saved rest) c U = plus (minus (plus U (mentioned c)) (those own)) (plus (valued saved) (given c))
+grown (OpenCall tie into y saved lent caller rest) c U = plus (valued saved) (plus (just_lent lent y) (just_taken into))
+
+-- no readable or writable variable from outside of an open recover block gets a value in it
+abbrev pub recover_right : Context → Frame Held → Code → Vars → Bool
+recover_right c (OpenRecover own hides saved rest) a U = hides_tied c (minus (plus U (mentioned a)) (those own)) hides
+recover_right c _ a U = true
+
+-- what a code says of its calls is right, and it is rightly scoped
+abbrev pub code_right : Context → Code → Vars → Bool
+code_right c a U = calls_right c a && is_scoped c a U
+
+module _ (u : UnitCode) where
+  -- the same of the code of method m, entered with at most U, and of all that stands below it
+  abbrev pub stack_right : ℕ → Code → List (Frame Held) → Vars → Bool
+  stack_right m c [] U = code_right (context_of u m) c U
+  stack_right m c (f ∷ st) U = code_right (context_of u m) c U && (recover_right (context_of u m) f c U && stack_right (routine_below f m) (rest_of f) st (grown f c U))
+
+  -- the same of all branches of a tree; what stands in a side may have a value after the join
+  abbrev pub tree_right : Task → Bool
+  tree_right (Leaf b) = stack_right b.own.routine b.code b.stack (valued b.own.vars)
+  tree_right (Fork b p l r) = stack_right b.own.routine b.code b.stack (plus (valued b.own.vars) (plus (mentions_l p) (mentions_r p))) && (tree_right l && tree_right r)
+
+-- ---------- hidden variables ----------
+-- no listed variable has a value
+abbrev pub none_valued : List ℕ → List Held → Bool
+none_valued hides vs = has_none (valued vs) hides
+
+-- only listed variables have a value
+abbrev pub only_valued : List ℕ → List Held → Bool
+only_valued hides vs = not (some_below (length vs) (minus (valued vs) (those hides)))
+
+-- what is laid by at a recover block is hidden in it. Where the code c ends, no variable that is hidden there gets a value: neither one that is given to, nor one that is lent or takes a result
+abbrev pub stack_hidden : List ℕ → Code → List (Frame Held) → Bool
+stack_hidden below c [] = true
+stack_hidden below c (OpenBlock own rest ∷ st) = stack_hidden below rest st
+stack_hidden below c (OpenRecover own hides saved rest ∷ st) =
+    (only_valued hides saved && none_valued (hidden_above below st) saved) && (has_none (given c) (hidden_above below st) && stack_hidden below rest st)
+stack_hidden below c (OpenCall tie into y saved lent caller rest ∷ st) =
+    (none_valued (hidden_above below st) saved && has_none (plus (just_lent lent y) (just_taken into)) (hidden_above below st)) && stack_hidden below rest st
+
+-- nor has one that is hidden now
+abbrev pub branch_hidden : List ℕ → Branch → Bool
+branch_hidden below b = none_valued (hidden_above below b.stack) b.own.vars && stack_hidden below b.code b.stack
+
+-- so it is in all branches of a tree; what is hidden at a par is hidden in its sides
+abbrev pub tree_hidden : List ℕ → Task → Bool
+tree_hidden below (Leaf b) = branch_hidden below b
+tree_hidden below (Fork b p l r) = branch_hidden below b && (tree_hidden (hidden_above below b.stack) l && tree_hidden (hidden_above below b.stack) r)
+
+-- ---------- methods ----------
+-- the method of the code that stands lowest, where that above the stack is of method m
+abbrev pub lowest : ℕ → List (Frame Held) → ℕ
+lowest m [] = m
+lowest m (f ∷ st) = lowest (routine_below f m) st
+
+-- the lowest method of a side that has no end is m
+abbrev pub stands_in : ℕ → Task → Bool
+stands_in m (Leaf b) = not (is_open b.close) || nat_eq (lowest b.own.routine b.stack) m
+stands_in m (Fork b p l r) = nat_eq (lowest b.own.routine b.stack) m
+
+-- the sides of a par stand in the method of their parent
+abbrev pub sides_stand : Task → Bool
+sides_stand (Leaf b) = true
+sides_stand (Fork b p l r) = (stands_in b.own.routine l && stands_in b.own.routine r) && (sides_stand l && sides_stand r)
 
 -- ---------- names to come ----------
 -- the one branch is the other, or stands below it
@@ -255,11 +328,14 @@ PathsFit (Fork b p l r) =
     (k : ℕ) × (b.own.mark.pars ≡ suc k) × (path_of l ≡ (k, OnLeft) ∷ b.own.mark.path) × (path_of r ≡ (k, OnRight) ∷ b.own.mark.path) × PathsFit l × PathsFit r
 
 -- ---------- the picture ----------
--- the labels are a picture of the state: its variables and its objects lead only where their permissions allow, its code goes on, and no object has a name that is still to be given
+-- the labels are a picture of the state: its variables and its objects lead only where their permissions allow, its code goes on and ends, what that says of calls is right and it is rightly scoped, no hidden variable has a value, each side stands in the method of its parent, and no object has a name that is still to be given
 pub record IsPicture (u : UnitCode) (labels : Labels) (s : State) : Type 0 where
   pub variables : tree_fits u labels s.heap.objects (λ w. w) (Base Here 0) s.task ≡ true
   pub objects : (n : Name) → object_fits u labels s.heap.objects n (s.heap.objects n) ≡ true
   pub goes : (H : Vars) × TreeGoes u [] s.task H
   pub ends : tree_ends ByReturn s.task ≡ true
+  pub right : tree_right u s.task ≡ true
+  pub hidden : tree_hidden [] s.task ≡ true
+  pub stand : sides_stand s.task ≡ true
   pub new : (n : Name) → MayBeGiven s.task n → s.heap.objects n ≡ None
   pub paths : PathsFit s.task

@@ -1,0 +1,3 @@
+-- Worked examples of the picture.
+mod RefutedPictures
+mod HiddenRuns
