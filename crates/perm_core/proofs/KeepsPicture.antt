@@ -1,4 +1,9 @@
 -- What holds of a picture after an event.
+pub mod LeafTurns
+pub mod TreeEvents
+pub mod Endings
+pub mod Sides
+pub mod NewNames
 pub mod Relabellings
 pub mod CarriedValues
 pub mod CallEnds

@@ -41,12 +41,12 @@ clear-loses vs x = go (slice_get vs x)
     go (Some v) = set-loses vs x
 
 -- a variable that gives a value has it
-looked-up : (o : Option Held) (v : Held) → held tagged o ≡ Gives v → o ≡ Some v
+pub looked-up : (o : Option Held) (v : Held) → held tagged o ≡ Gives v → o ≡ Some v
 looked-up None v e = absurd (cc)
 looked-up (Some None) v e = absurd (cc)
 looked-up (Some (Some x)) v e = cc
 
-referred-to : (v : Held) (r : Name) (n : ℕ) → tagged.as_reference v ≡ ToObject r n → v ≡ Some (Reference r n)
+pub referred-to : (v : Held) (r : Name) (n : ℕ) → tagged.as_reference v ≡ ToObject r n → v ≡ Some (Reference r n)
 referred-to None r n e = absurd (cc)
 referred-to (Some (Number x)) r n e = absurd (cc)
 referred-to (Some (Truth x)) r n e = absurd (cc)

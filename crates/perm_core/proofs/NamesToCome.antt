@@ -9,11 +9,11 @@ use Rattle.perm_core.specs.Picture.{IsBelow, MayGive, next, MayBeGiven, path_of,
 use Rattle.perm_core.proofs.TwoNodes.{AreApart}
 
 -- ---------- paths ----------
-below-itself : (p : Path) → IsBelow p p
+pub below-itself : (p : Path) → IsBelow p p
 below-itself [] = refl
 below-itself (s ∷ p) = inl refl
 
-below-parent : (s : ℕ × Side) (above p : Path) → IsBelow (s ∷ above) p → IsBelow above p
+pub below-parent : (s : ℕ × Side) (above p : Path) → IsBelow (s ∷ above) p → IsBelow above p
 below-parent s above [] h = absurd (cc)
 below-parent s above (t ∷ p) (inl e) = inr (subst (λ q. IsBelow above q) (rest e) (below-itself above))
   where
@@ -21,13 +21,13 @@ below-parent s above (t ∷ p) (inl e) = inr (subst (λ q. IsBelow above q) (res
     rest e = cc
 below-parent s above (t ∷ p) (inr h) = inr (below-parent s above p h)
 
-below-length : (above p : Path) → IsBelow above p → length above ≤ length p
+pub below-length : (above p : Path) → IsBelow above p → length above ≤ length p
 below-length above [] h = subst (λ q. length q ≤ 0) (sym h) (le_refl 0)
 below-length above (s ∷ p) (inl e) = subst (λ q. length q ≤ length (s ∷ p)) (sym e) (le_refl (length (s ∷ p)))
 below-length above (s ∷ p) (inr h) = let less = below-length above p h in omega (arith, less)
 
 -- no path is below two that differ in their last step alone
-one-side : (a b : ℕ × Side) (above p : Path) → a ≢ b → IsBelow (a ∷ above) p → IsBelow (b ∷ above) p → ⊥
+pub one-side : (a b : ℕ × Side) (above p : Path) → a ≢ b → IsBelow (a ∷ above) p → IsBelow (b ∷ above) p → ⊥
 one-side a b above [] d h k = absurd (cc)
 one-side a b above (s ∷ p) d (inl e) (inl f) = d (first (e ∙ sym f))
   where
@@ -37,7 +37,7 @@ one-side a b above (s ∷ p) d (inl e) (inr k) = let less = below-length (b ∷ 
 one-side a b above (s ∷ p) d (inr h) (inl f) = let less = below-length (a ∷ above) p h in let same = ap (λ q. length q) f in omega (arith, less, same)
 one-side a b above (s ∷ p) d (inr h) (inr k) = one-side a b above p d h k
 
-left-not-right : (a b : ℕ × Side) → a ≡ b → a.1 ≡ OnLeft → b.1 ≡ OnRight → ⊥
+pub left-not-right : (a b : ℕ × Side) → a ≡ b → a.1 ≡ OnLeft → b.1 ≡ OnRight → ⊥
 left-not-right a b e l r = let same = ap (λ (q : ℕ × Side). q.1) e in absurd (cc)
 
 -- ---------- leaves ----------

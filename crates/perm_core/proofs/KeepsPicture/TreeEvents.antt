@@ -1,0 +1,51 @@
+-- What an event does to a tree, case by case: a leaf takes a turn or is refused an allocation, a parent whose sides are over goes on, or it is an event of a side.
+use Rattle.std.proofs.Common.{◌≡◌, ℕ, zero, suc, Option, Some, None, List, [], ◌∷◌, refl, sym, subst}
+use Rattle.perm_tree.specs.Code.{Code, End, UnitCode}
+use Rattle.perm_meaning.specs.Effects.{Tick}
+use Rattle.perm_meaning.specs.Names.{Mark}
+use Rattle.perm_meaning.specs.Machine.{Frame, OpenBlock, Close, Returning, Failing, NoRoom, Leaf, Fork, Blocks, Way, Here, GoL, GoR, Final, Stage, Over, Due, stage_by_turns, stage_by_code, stage_from, stage, final, if_both_over, Did, Turn, Takes, NoTurn, turn_op, next_turn, leaf_op, leaf_on, ended, done, told_to, resumed, join_of, fill}
+use Rattle.perm_meaning.specs.NamedHeap.{Held, Op, Own, Branch, Task}
+use Rattle.perm_meaning.proofs.Leads.{none_some, some_inj}
+use Rattle.perm_core.specs.Core.{core, look}
+use Rattle.perm_core.proofs.KeepsPicture.LeafTurns.{TurnTo, TurnTells, turn-tells}
+
+-- a step is due only of a branch that has no end
+due-none : (close : Option (Close Held)) (s : Stage Held) (n t : ℕ) (l : Own) → stage_from close s n l ≡ Due t → close ≡ None
+due-none None s n t l e = refl
+due-none (Some (Returning v)) s n t l e = absurd (let no : ⊥ = cc e in no)
+due-none (Some (Failing f)) s n t l e = absurd (let no : ⊥ = cc e in no)
+
+module _ (u : UnitCode) where
+  -- the event of a node, which asks o and is told v, or refused
+  pub data EventAt (o : Op) (v : Option Held) : Way → Task → Task → Type 0 where
+    refused_leaf : (b : Branch) (t : ℕ) (after : Task) → v ≡ None → b.close ≡ None → after ≡ ended (core u) b t b.own.printed (Failing NoRoom) → EventAt o v Here (Leaf b) after
+    told_leaf : (b : Branch) (t : ℕ) (w : Held) (d : Did Held Mark) (after : Task) → v ≡ Some w → b.close ≡ None → TurnTo u b.own w b.code b.stack o d → after ≡ done (core u) b t d → EventAt o v Here (Leaf b) after
+    joining : (b : Branch) (p : Blocks) (l r : Task) (x y : Final Held) (after : Task) → o ≡ Tick → final l ≡ Some x → final r ≡ Some y → after ≡ resumed (core u) b (join_of (core u) b p x y) → EventAt o v Here (Fork b p l r) after
+    on_left : (w : Way) (b : Branch) (p : Blocks) (l r after : Task) → EventAt o v w l after → EventAt o v (GoL w) (Fork b p l r) (Fork b p after r)
+    on_right : (w : Way) (b : Branch) (p : Blocks) (l r after : Task) → EventAt o v w r after → EventAt o v (GoR w) (Fork b p l r) (Fork b p l after)
+
+  leaf-event : (o : Op) (v : Option Held) (b : Branch) (s : Stage Held) → stage b ≡ s → leaf_op (core u) b s ≡ Some o → EventAt o v Here (Leaf b) (leaf_on (core u) b s v)
+  leaf-event o v b (Over f) is e = none_some e
+  leaf-event o v b (Due t) is e = by_turn (next_turn (core u) b) (turn-tells u b.own b.code b.stack) e v
+    where
+      open_ : b.close ≡ None
+      open_ = due-none b.close (stage_by_code b.code b.stack b.turns b.own) b.turns t b.own is
+
+      by_turn : (x : Turn Held Mark Op) → TurnTells u b.own b.code b.stack x → turn_op (core u) x ≡ Some o → (v : Option Held) → EventAt o v Here (Leaf b) (told_to (core u) b t x v)
+      by_turn NoTurn tells e v = none_some e
+      by_turn (Takes q told) tells e None = refused_leaf b t _ refl open_ refl
+      by_turn (Takes q told) tells e (Some w) = told_leaf b t w (told w) _ refl open_ (subst (λ q. TurnTo u b.own w b.code b.stack q (told w)) (some_inj e) (tells w)) refl
+
+  join-event : (o : Op) (v : Option Held) (b : Branch) (p : Blocks) (l r : Task) (x y : Option (Final Held)) → final l ≡ x → final r ≡ y → if_both_over x y None (λ x y. Some Tick) ≡ Some o
+      → EventAt o v Here (Fork b p l r) (if_both_over x y (Fork b p l r) (λ x y. resumed (core u) b (join_of (core u) b p x y)))
+  join-event o v b p l r None y left right e = none_some e
+  join-event o v b p l r (Some x) None left right e = none_some e
+  join-event o v b p l r (Some x) (Some y) left right e = joining b p l r x y _ (sym (some_inj e)) left right refl
+
+  pub event-at : (o : Op) (v : Option Held) (w : Way) (t : Task) → look u w t ≡ Some o → EventAt o v w t (fill (core u) w t v)
+  event-at o v Here (Leaf b) e = leaf-event o v b (stage b) refl e
+  event-at o v Here (Fork b p l r) e = join-event o v b p l r (final l) (final r) refl refl e
+  event-at o v (GoL w) (Leaf b) e = none_some e
+  event-at o v (GoR w) (Leaf b) e = none_some e
+  event-at o v (GoL w) (Fork b p l r) e = on_left w b p l r (fill (core u) w l v) (event-at o v w l e)
+  event-at o v (GoR w) (Fork b p l r) e = on_right w b p l r (fill (core u) w r v) (event-at o v w r e)
