@@ -4,6 +4,8 @@ pub mod TreeEvents
 pub mod Endings
 pub mod Sides
 pub mod NewNames
+pub mod ValuedLists
+pub mod RightCode
 pub mod Relabellings
 pub mod CarriedValues
 pub mod CallEnds

@@ -19,10 +19,10 @@ use Rattle.perm_core.specs.Picture.{context_of, valued, rest_of, routine_below, 
 same-within : (G : Vars) → IsWithin G G
 same-within G x e = e
 
-and-map : (a b c d : Bool) → (a ≡ true → c ≡ true) → (b ≡ true → d ≡ true) → a && b ≡ true → c && d ≡ true
+pub and-map : (a b c d : Bool) → (a ≡ true → c ≡ true) → (b ≡ true → d ≡ true) → a && b ≡ true → c && d ≡ true
 and-map a b c d f g e = let x = both a b e in together c d (f x.0) (g x.1)
 
-not-map : (a b : Bool) → (a ≡ true → b ≡ true) → not b ≡ true → not a ≡ true
+pub not-map : (a b : Bool) → (a ≡ true → b ≡ true) → not b ≡ true → not a ≡ true
 not-map false b f e = refl
 not-map true b f e = absurd (let p : b ≡ true = f refl in let q : false ≡ true = sym (ap (λ t. not t) p) ∙ e in cc)
 
@@ -42,10 +42,10 @@ below-more V U (suc n) less e = go (below-more V U n less) (or_cases (V n) (some
     go rec (inl q) = or_left (U n) (some_below n U) (less n q)
     go rec (inr q) = or_right (U n) (some_below n U) (rec q)
 
-none-fewer : (V U : Vars) (xs : List ℕ) → IsWithin V U → has_none U xs ≡ true → has_none V xs ≡ true
+pub none-fewer : (V U : Vars) (xs : List ℕ) → IsWithin V U → has_none U xs ≡ true → has_none V xs ≡ true
 none-fewer V U xs less e = not-map (list_any V xs) (list_any U xs) (any-more V U xs less) e
 
-tied-fewer : (c : Context) (V U : Vars) (hides : List ℕ) → IsWithin V U → hides_tied c U hides ≡ true → hides_tied c V hides ≡ true
+pub tied-fewer : (c : Context) (V U : Vars) (hides : List ℕ) → IsWithin V U → hides_tied c U hides ≡ true → hides_tied c V hides ≡ true
 tied-fewer c V U hides less e =
     let few : Vars = minus (meet (tied_vars c) V) (those hides) in
     let many : Vars = minus (meet (tied_vars c) U) (those hides) in
@@ -104,7 +104,7 @@ recover-fewer k (OpenRecover own hides saved rest) c V U less e =
     (within-minus (plus V (mentioned c)) (plus U (mentioned c)) (those own) (within-plus V U (mentioned c) (mentioned c) less (same-within (mentioned c)))) e
 recover-fewer k (OpenCall tie into y saved lent caller rest) c V U less e = refl
 
-code-fewer : (k : Context) (c : Code) (V U : Vars) → IsWithin V U → code_right k c U ≡ true → code_right k c V ≡ true
+pub code-fewer : (k : Context) (c : Code) (V U : Vars) → IsWithin V U → code_right k c U ≡ true → code_right k c V ≡ true
 code-fewer k c V U less e = and-map (calls_right k c) (is_scoped k c U) (calls_right k c) (is_scoped k c V) (λ q. q) (scoped-fewer k c V U less) e
 
 pub stack-fewer : (u : UnitCode) (m : ℕ) (c : Code) (st : List (Frame Held)) (V U : Vars) → IsWithin V U → stack_right u m c st U ≡ true → stack_right u m c st V ≡ true
