@@ -6,6 +6,7 @@ pub mod Sides
 pub mod NewNames
 pub mod ValuedLists
 pub mod RightCode
+pub mod HiddenVariables
 pub mod Relabellings
 pub mod CarriedValues
 pub mod CallEnds

@@ -46,7 +46,7 @@ module _ (t : Vars) (y : ℕ) where
   option-none None n m = absurd (let f : false ≡ true = m in cc)
   option-none (Some x) n m = just-none x n m
 
-  instruction-none : (i : Instruction) → any_in_instruction t i ≡ false → mentions i y ≡ true → t y ≡ false
+  pub instruction-none : (i : Instruction) → any_in_instruction t i ≡ false → mentions i y ≡ true → t y ≡ false
   instruction-none (Declare x) n m = just-none x n m
   instruction-none (Assign x r) n m = split (t x) (any_in_argument t r) (nat_eq y x) (argument_mentions r y) (just-none x) (argument-none r) n m
   instruction-none (LoadField x z f) n m = split (t x) (t z) (nat_eq y x) (nat_eq y z) (just-none x) (just-none z) n m

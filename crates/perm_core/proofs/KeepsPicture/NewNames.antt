@@ -94,7 +94,7 @@ module _ (u : UnitCode) where
   -- an event leaves no more names to be given
   pub gives-fewer : (o : Op) (v : Option Held) (w : Way) (t after : Task) (n : Name) → EventAt u o v w t after → MayBeGiven after n → MayBeGiven t n
   gives-fewer o v _ _ after n (refused_leaf b t _ q open_ same) may = subst (λ (z : Task). MayBeGiven z n) same may
-  gives-fewer o v _ _ after n (told_leaf b t w d _ q open_ turn same) may = turn-fewer b t w b.code b.stack o d n turn (subst (λ (z : Task). MayBeGiven z n) same may)
+  gives-fewer o v _ _ after n (told_leaf b t w d _ q open_ due turn same) may = turn-fewer b t w b.code b.stack o d n turn (subst (λ (z : Task). MayBeGiven z n) same may)
   gives-fewer o v _ _ after n (joining b p l r x y _ q left right same) may = inl (resumed-fewer b (join_of (core u) b p x y) n (subst (λ (z : Task). MayBeGiven z n) same may))
   gives-fewer o v _ _ _ n (on_left w b p l r after is) (inl may) = inl may
   gives-fewer o v _ _ _ n (on_left w b p l r after is) (inr (inl may)) = inr (inl (gives-fewer o v w l after n is may))
@@ -136,7 +136,7 @@ module _ (u : UnitCode) where
   -- so no branch of the tree gives it again
   pub makes-new : (o : Op) (v : Option Held) (x : Held) (w : Way) (t after : Task) (n : Name) → v ≡ Some x → PathsFit t → EventAt u o v w t after → Makes o n → (IsBelow (path_of t) n.by) × (MayBeGiven after n → ⊥)
   makes-new o v x _ _ after n told fit (refused_leaf b t _ q open_ same) made = let clash : Some x ≡ None = sym told ∙ q in absurd (let no : ⊥ = cc clash in no)
-  makes-new o v x _ _ after n told fit (told_leaf b t w d _ q open_ turn same) made =
+  makes-new o v x _ _ after n told fit (told_leaf b t w d _ q open_ due turn same) made =
       let is = turn-makes b t w b.code b.stack o d n turn made in (is.0, λ may. is.1 (subst (λ (z : Task). MayBeGiven z n) same may))
   makes-new o v x _ _ after n told fit (joining b p l r y z _ q left right same) made = absurd (subst (λ (z : Op). Makes z n) q made)
   makes-new o v x _ _ _ n told fit (on_left w b p l r after is) made = both (makes-new o v x w l after n told fit.4 is made)

@@ -87,7 +87,7 @@ none-own U a own e = go own (λ x q. q) e
         by_tests false false i j e later = ap (λ t. not ((t || N x) || list_any (plus U N) xs)) i ∙ ap (λ t. not (t || list_any (plus U N) xs)) j ∙ later (sym (ap (λ t. not (t || list_any U xs)) i) ∙ e)
 
 -- the variable to which a code gives is the one
-given-one : (c : Code) (x y : ℕ) → given c x ≡ true → given c y ≡ true → just x y ≡ true
+pub given-one : (c : Code) (x y : ℕ) → given c x ≡ true → given c y ≡ true → just x y ≡ true
 given-one End x y e f = absurd (let no : ⊥ = cc e in no)
 given-one (Give at w z) x y e f = let p : x ≡ z = eq_true x z e in let q : y ≡ z = eq_true y z f in subst (λ n. nat_eq n x ≡ true) (sym (q ∙ sym p)) (eq_itself x)
 given-one (Return at a) x y e f = absurd (let no : ⊥ = cc e in no)
@@ -99,7 +99,7 @@ given-one (Recover at z own hides body rest) x y e f = given-one rest x y e f
 
 module _ (u : UnitCode) where
   -- ---------- stacks ----------
-  top-right : (m : ℕ) (c : Code) (st : List (Frame Held)) (U : Vars) → stack_right u m c st U ≡ true → code_right (context_of u m) c U ≡ true
+  pub top-right : (m : ℕ) (c : Code) (st : List (Frame Held)) (U : Vars) → stack_right u m c st U ≡ true → code_right (context_of u m) c U ≡ true
   top-right m c [] U e = e
   top-right m c (f ∷ st) U e = (both (code_right (context_of u m) c U) (recover_right (context_of u m) f c U && stack_right u (routine_below f m) (rest_of f) st (grown f c U)) e).0
 
@@ -428,12 +428,12 @@ module _ (u : UnitCode) where
       let w = whole.routines m r here in
       subst (λ (o : Option Routine). code_right (context_if u o) r.code V ≡ true) (sym here) (together (calls_right (context u r) r.code) (is_scoped (context u r) r.code V) w.calls (scoped-fewer (context u r) r.code V (first_live r) less w.scoped))
 
-  kept-within : (tie : Tie) (y : ℕ) (vs : List Held) → IsWithin (valued (while_called tagged Moves tie y vs)) (valued vs)
+  pub kept-within : (tie : Tie) (y : ℕ) (vs : List Held) → IsWithin (valued (while_called tagged Moves tie y vs)) (valued vs)
   kept-within Shares y vs x e = e
   kept-within Raises y vs x e = e
   kept-within Lends y vs x e = clear-within vs y x e
 
-  receives-within : (l : Own) (consumed : Bool) (y : ℕ) (args : List Argument) (this : Held) (found vs : List Held) → Receives u l consumed y args this found vs → IsWithin (valued vs) (valued l.vars)
+  pub receives-within : (l : Own) (consumed : Bool) (y : ℕ) (args : List Argument) (this : Held) (found vs : List Held) → Receives u l consumed y args this found vs → IsWithin (valued vs) (valued l.vars)
   receives-within l _ _ _ _ _ _ (first y args this found vs here q is) = then (evaluates-within args (clear tagged l.vars y) found vs is) (clear-within l.vars y)
   receives-within l _ _ _ _ _ _ (last y args this found vs is here) = evaluates-within args l.vars found vs is
 
@@ -586,7 +586,7 @@ module _ (u : UnitCode) where
     -- ---------- events ----------
     pub keeps-right : (o : Op) (v : Option Held) (w : Way) (t after : Task) → tree_right u t ≡ true → EventAt u o v w t after → tree_right u after ≡ true
     keeps-right o v _ _ after e (refused_leaf b t _ q open_ is) = ap (tree_right u) is
-    keeps-right o v _ _ after e (told_leaf b t w d _ q open_ turn is) = ap (tree_right u) is ∙ turn-right b t w b.code b.stack o d refl e turn
+    keeps-right o v _ _ after e (told_leaf b t w d _ q open_ due turn is) = ap (tree_right u) is ∙ turn-right b t w b.code b.stack o d refl e turn
     keeps-right o v _ _ after e (joining b p l r x y _ q ended_l ended_r is) =
         ap (tree_right u) is ∙ resumed-right b p x y (both (stack_right u b.own.routine b.code b.stack (plus (valued b.own.vars) (plus (mentions_l p) (mentions_r p)))) (tree_right u l && tree_right u r) e).0
     keeps-right o v _ _ _ e (on_left w b p l r after is) =

@@ -99,7 +99,7 @@ module _ (u : UnitCode) where
   -- an event keeps both of the root
   root-keeps : (m : ℕ) (o : Op) (v : Option Held) (w : Way) (t after : Task) → stands_in m t ≡ true → EventAt u o v w t after → Keeps m (path_of t) after
   root-keeps m o v _ _ after e (refused_leaf b t _ q open_ same) = subst (λ (z : Task). Keeps m b.own.mark.path z) (sym same) (record { stands = refl; paths = refl })
-  root-keeps m o v _ _ after e (told_leaf b t w d _ q open_ turn same) =
+  root-keeps m o v _ _ after e (told_leaf b t w d _ q open_ due turn same) =
       let low = same-number (lowest b.own.routine b.stack) m (sym (ap (λ x. not (is_open x) || nat_eq (lowest b.own.routine b.stack) m) open_) ∙ e) in
       subst (λ (z : Task). Keeps m b.own.mark.path z) (sym same) (turn-keeps m b t w b.code b.stack o d refl low turn)
   root-keeps m o v _ _ after e (joining b p l r x y _ q left right same) = subst (λ (z : Task). Keeps m b.own.mark.path z) (sym same) (resumed-keeps m b _ (same-number (lowest b.own.routine b.stack) m e))
@@ -131,7 +131,7 @@ module _ (u : UnitCode) where
   -- so it is after an event
   pub keeps-sides : (o : Op) (v : Option Held) (w : Way) (t after : Task) → SidesFit t → EventAt u o v w t after → SidesFit after
   keeps-sides o v _ _ after fit (refused_leaf b t _ q open_ same) = subst SidesFit (sym same) (record { stand = refl; paths = tt })
-  keeps-sides o v _ _ after fit (told_leaf b t w d _ q open_ turn same) = subst SidesFit (sym same) (turn-sides b t d)
+  keeps-sides o v _ _ after fit (told_leaf b t w d _ q open_ due turn same) = subst SidesFit (sym same) (turn-sides b t d)
   keeps-sides o v _ _ after fit (joining b p l r x y _ q left right same) = subst SidesFit (sym same) (resumed-sides b (join_of (core u) b p x y))
   keeps-sides o v _ _ _ fit (on_left w b p l r after is) =
       let m = b.own.routine in

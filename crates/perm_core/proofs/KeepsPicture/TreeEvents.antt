@@ -19,7 +19,7 @@ module _ (u : UnitCode) where
   -- the event of a node, which asks o and is told v, or refused
   pub data EventAt (o : Op) (v : Option Held) : Way → Task → Task → Type 0 where
     refused_leaf : (b : Branch) (t : ℕ) (after : Task) → v ≡ None → b.close ≡ None → after ≡ ended (core u) b t b.own.printed (Failing NoRoom) → EventAt o v Here (Leaf b) after
-    told_leaf : (b : Branch) (t : ℕ) (w : Held) (d : Did Held Mark) (after : Task) → v ≡ Some w → b.close ≡ None → TurnTo u b.own w b.code b.stack o d → after ≡ done (core u) b t d → EventAt o v Here (Leaf b) after
+    told_leaf : (b : Branch) (t : ℕ) (w : Held) (d : Did Held Mark) (after : Task) → v ≡ Some w → b.close ≡ None → stage b ≡ Due t → TurnTo u b.own w b.code b.stack o d → after ≡ done (core u) b t d → EventAt o v Here (Leaf b) after
     joining : (b : Branch) (p : Blocks) (l r : Task) (x y : Final Held) (after : Task) → o ≡ Tick → final l ≡ Some x → final r ≡ Some y → after ≡ resumed (core u) b (join_of (core u) b p x y) → EventAt o v Here (Fork b p l r) after
     on_left : (w : Way) (b : Branch) (p : Blocks) (l r after : Task) → EventAt o v w l after → EventAt o v (GoL w) (Fork b p l r) (Fork b p after r)
     on_right : (w : Way) (b : Branch) (p : Blocks) (l r after : Task) → EventAt o v w r after → EventAt o v (GoR w) (Fork b p l r) (Fork b p l after)
@@ -34,7 +34,7 @@ module _ (u : UnitCode) where
       by_turn : (x : Turn Held Mark Op) → TurnTells u b.own b.code b.stack x → turn_op (core u) x ≡ Some o → (v : Option Held) → EventAt o v Here (Leaf b) (told_to (core u) b t x v)
       by_turn NoTurn tells e v = none_some e
       by_turn (Takes q told) tells e None = refused_leaf b t _ refl open_ refl
-      by_turn (Takes q told) tells e (Some w) = told_leaf b t w (told w) _ refl open_ (subst (λ q. TurnTo u b.own w b.code b.stack q (told w)) (some_inj e) (tells w)) refl
+      by_turn (Takes q told) tells e (Some w) = told_leaf b t w (told w) _ refl open_ is (subst (λ q. TurnTo u b.own w b.code b.stack q (told w)) (some_inj e) (tells w)) refl
 
   join-event : (o : Op) (v : Option Held) (b : Branch) (p : Blocks) (l r : Task) (x y : Option (Final Held)) → final l ≡ x → final r ≡ y → if_both_over x y None (λ x y. Some Tick) ≡ Some o
       → EventAt o v Here (Fork b p l r) (if_both_over x y (Fork b p l r) (λ x y. resumed (core u) b (join_of (core u) b p x y)))
