@@ -90,10 +90,10 @@ fn append(tokens: &mut Vec<Token>, token: Option<Token>) -> Result<(), LexError>
     ensures ok { OnOk result (tokens.new.items ≡ tokens.old.items ++ option_to_list token) }
     ensures err { IfErr result (λ e. e ≡ LexError.NoMemory) }
 {
-    match token {
-        Some(token) => tokens.push(token).map_err(|_| LexError::NoMemory),
-        None => Ok(()),
+    if let Some(token) = token {
+        tokens.push(token)?;
     }
+    Ok(())
 }
 
 /// Reads a text to its end, or up to the first piece that is refused.

@@ -1,4 +1,3 @@
-pub mod Answers
 pub mod Findings
 pub mod Numbers
 pub mod Runs

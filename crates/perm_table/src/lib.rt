@@ -7,7 +7,6 @@ ghost use Rattle.perm_tree.specs.Names.{main_run, names_refusal, refusal_from, r
 ghost use Rattle.perm_tree.specs.Resolves.{resolved, IsResolved, Resolves};
 ghost use Rattle.perm_tree.specs.Scopes.{tables_of};
 ghost use Rattle.perm_tree.specs.WellFormed.{IsWellFormed};
-ghost use Rattle.perm_table.specs.Answers.{Answers};
 ghost use Rattle.perm_table.specs.Findings.{findings, first_before, told_if};
 ghost use Rattle.perm_table.specs.Numbers.{number_in};
 
@@ -33,9 +32,14 @@ pub fn resolve(alloc: Global, program: Program) -> Result<Unit, TableError>
     ensures resolved { IfOk result (λ unit. Resolves program unit) }
     ensures refused { IfErr result (λ e. e ≢ TableError.NoMemory → names_refusal program ≡ Some e) }
 {
-    match answer(alloc, program) {
-        Ok(answer) => answer,
-        Err(_) => Err(TableError::NoMemory),
+    let Named {
+        program,
+        tables,
+        refusal,
+    } = look_up(alloc, program)?;
+    match refusal {
+        Some(error) => Err(error),
+        None => Ok(unit_of(alloc, program, tables)?),
     }
 }
 
@@ -45,21 +49,6 @@ struct Named {
     program: Program,
     tables: List<MethodTable>,
     refusal: Option<TableError>,
-}
-
-/// The unit of a program, or the first refusal of its names.
-fn answer(alloc: Global, program: Program) -> Result<Result<Unit, TableError>, NoMemory>
-    ensures { IfOk result (Answers program) }
-{
-    let Named {
-        program,
-        tables,
-        refusal,
-    } = look_up(alloc, program)?;
-    match refusal {
-        Some(error) => Ok(Err(error)),
-        None => Ok(Ok(unit_of(alloc, program, tables)?)),
-    }
 }
 
 /// Looks up the names of a program.
