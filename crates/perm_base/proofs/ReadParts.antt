@@ -1,8 +1,12 @@
 -- How far a file is read.
-use Rattle.std.proofs.Common.{◌≡◌, ℕ, ◌+◌, ◌≤◌, List, ◌++◌, length, take, drop, Option, None, Some, IfSome, IsSomeAnd, sym, subst, ◌∙◌, ap, arith, length-append, length-drop}
+use Rattle.std.proofs.Common.{◌≡◌, ℕ, ◌+◌, ◌≤◌, List, ◌++◌, length, take, drop, Option, None, Some, Result, Err, IfSome, IsSomeAnd, sym, subst, ◌∙◌, ap, arith, length-append, length-drop}
 use Rattle.std.proofs.lemmas.List.{length-take-le}
 use Rattle.std.proofs.Math.Seq.{take-add}
+use Rattle.std.specs.Global.{Vec}
 use Rattle.perm_base.specs.Files.{Files, WhereTold, Copies}
+use Rattle.perm_base.specs.Reads.{AreReadsFor, GaveFor, ReadsUpTo, asked_count}
+use Rattle.perm_base.specs.declared.reading.ReadFault.{ReadFault}
+use Rattle.perm_base.specs.declared.reading.ReadFault.TheVariants.{Fault, TooLong, NoMemory}
 
 -- what was read is the front of the file, and nothing was read where no file is there
 abbrev pub IsFrontOf : Option (List ℕ) → List ℕ → Type 0
@@ -42,3 +46,13 @@ pub more_read : (told now : Option Files) (path text new piece : List ℕ) (n at
     → new ≡ text ++ take n piece → IsFrontWhereTold told path new
 more_read told now path text new piece n at same is front copied longer =
     more_told told path text new piece n at is front (subst (λ t. WhereTold t path (λ bytes. Copies bytes at n piece)) same copied) longer
+
+-- a read that isn't gone on from ends the reads
+pub ended : {S : Type 0} (gives : S → List ℕ → ℕ → ℕ → Option ℕ → S → Type 0) (path : List ℕ) (limit : ℕ) (first : S) (at size : ℕ) (before after : S) (e : ReadFault)
+    → ReadsUpTo gives path limit first at before → at ≤ limit → size ≡ asked_count limit at
+    → GaveFor (λ came. gives before path at size came after) (Err e) → AreReadsFor gives path limit first (Err e) after
+ended gives path limit first at size before after Fault reads missing asked gave =
+    (at, record { before = before; reads = reads; missing = missing; last = subst (λ k. gives before path at k None after) asked gave })
+ended gives path limit first at size before after TooLong reads missing asked gave = absurd gave
+ended gives path limit first at size before after NoMemory reads missing asked gave =
+    (at, (gave.0, record { before = before; reads = reads; missing = missing; last = subst (λ k. gives before path at k (Some gave.0) after) asked gave.1 }))

@@ -1,8 +1,9 @@
 -- How far a text is written.
-use Rattle.std.proofs.Common.{◌≡◌, ℕ, ◌-◌, ◌<◌, List, ◌++◌, length, take, drop, Option, None, Some, Result, Ok, Err, OnErr, refl, sym, ◌∙◌, ap, arith, append_assoc, length-append, length-drop}
-use Rattle.std.proofs.lemmas.List.{take-append-drop, take_all}
+use Rattle.std.proofs.Common.{◌≡◌, ℕ, ◌+◌, ◌-◌, ◌<◌, ◌≤◌, List, ◌++◌, length, take, drop, Option, None, Some, Result, Ok, Err, OnErr, refl, sym, ◌∙◌, ap, arith, subst, [], append-nil, append_assoc, length-append, length-drop}
+use Rattle.std.proofs.lemmas.List.{drop-drop, take-append-drop, take_all}
 use Rattle.std.proofs.Math.Seq.{take-append_seam}
 use Rattle.perm_base.specs.Pieces.{appended, AppendsPart}
+use Rattle.perm_base.specs.Writes.{IsRefusedAfter, WritesUpTo, no_write, one_more}
 
 -- what holds anyhow holds at an error
 pub on_err : {T E P : Type 0} (r : Result T E) → P → OnErr r P
@@ -14,6 +15,11 @@ pub record IsWrittenUpTo (old now : Option (List ℕ)) (text rest : List ℕ) : 
   pub done : List ℕ
   pub split : done ++ rest ≡ text
   pub taken : now ≡ appended old done
+
+-- before the first write
+pub none_written : (old : Option (List ℕ)) (text : List ℕ) → IsWrittenUpTo old old text text
+none_written None text = record { done = []; split = refl; taken = refl }
+none_written (Some taken) text = record { done = []; split = refl; taken = ap Some (sym (append-nil taken)) }
 
 -- two pieces are one
 pub appended-append : (old : Option (List ℕ)) (a b : List ℕ) → appended (appended old a) b ≡ appended old (a ++ b)
@@ -38,3 +44,42 @@ part_written old now new text rest before some same = (
   omega (arith, ap length before.split, length-append before.done rest),
   same ∙ before.taken ∙ ap (λ xs. appended old xs) (sym (take-append_seam before.done rest) ∙ ap (take (length before.done)) before.split),
 )
+
+-- ---------- the writes ----------
+-- the writes have come as far as what is left of the text
+pub record AreWritten {S : Type 0} (gives : S → List ℕ → Option ℕ → S → Type 0) (text : List ℕ) (first : S) (rest : List ℕ) (after : S) : Type 0 where
+  pub at : ℕ
+  pub left : rest ≡ drop at text
+  pub size : at + length rest ≡ length text
+  pub writes : WritesUpTo gives text first at after
+
+module _ {S : Type 0} (gives : S → List ℕ → Option ℕ → S → Type 0) (text : List ℕ) (first : S) where
+  -- before the first write
+  pub no_writes : AreWritten gives text first text first
+  no_writes = record { at = 0; left = refl; size = omega arith; writes = no_write }
+
+  -- one write more
+  pub more_writes : (rest : List ℕ) (before after : S) (n : ℕ) → AreWritten gives text first rest before → 0 < n → n ≤ length rest
+      → gives before rest (Some n) after → AreWritten gives text first (take (length rest - n) (drop n rest)) after
+  more_writes rest before after n are some within given = record {
+    at = are.at + n;
+    left = take_all (length rest - n) (drop n rest) (omega (arith, length-drop n rest)) ∙ ap (drop n) are.left ∙ drop-drop n are.at text;
+    size = omega (arith, are.size, ap length (take_all (length rest - n) (drop n rest) (omega (arith, length-drop n rest))), length-drop n rest);
+    writes = one_more are.at n (are.at + n) before after are.writes (omega (arith, are.size)) some
+        (subst (λ r. gives before r (Some n) after) are.left given) refl;
+  }
+
+  -- with nothing left the whole text is written
+  pub all_written : (rest : List ℕ) (after : S) → AreWritten gives text first rest after → length rest ≡ 0 → WritesUpTo gives text first (length text) after
+  all_written rest after are none = let all : are.at ≡ length text = omega (arith, are.size) in subst (λ n. WritesUpTo gives text first n after) all are.writes
+
+  -- a write of what is left was refused
+  pub refused_write : (rest : List ℕ) (before after : S) → AreWritten gives text first rest before → 0 < length rest
+      → gives before rest None after → IsRefusedAfter gives text first after
+  refused_write rest before after are some given = record {
+    at = are.at;
+    before = before;
+    writes = are.writes;
+    missing = omega (arith, are.size);
+    refused = subst (λ r. gives before r None after) are.left given;
+  }

@@ -1,8 +1,9 @@
 //! Real files and the standard output. Neither tells what it holds.
 
-ghost use Rattle.std.specs.Prelude.{◌≡◌, ◌≤◌, ◌<◌, length, None, IfOk, is_err, if◌then◌else◌};
+ghost use Rattle.std.specs.Prelude.{◌≡◌, ◌≤◌, ◌<◌, length, None, IfOk, is_err, if◌then◌else◌, ⊤};
 ghost use Rattle.std.specs.Result.{result_ok};
 ghost use Rattle.perm_base.specs.Counts.{next_count};
+ghost use Rattle.perm_base.specs.Edge.{taken_count};
 
 use crate::outside::{Failed, Shelf, Sink};
 use std::io::{Read, Seek, SeekFrom, Write};
@@ -38,9 +39,10 @@ impl<R: Files> Shelf for FileShelf<'_, R> {
 
     ghost reads = { λ _. 0 };
 
+    ghost read_gives = { λ _ _ _ _ _ _. ⊤ };
+
     fn read(&mut self, path: &str, at: u64, into: &mut [u8]) -> Result<usize, Failed> {
-        let count = read_at(self.rt, path, at, into).ok();
-        answer(&mut self.faults, count)
+        read_answer(&mut self.faults, read_at(self.rt, path, at, into))
     }
 }
 
@@ -50,6 +52,15 @@ fn read_at<R: Files>(rt: &R, path: &str, at: u64, into: &mut [u8]) -> io::Result
     let mut file = fs::open(rt, path)?;
     file.seek(SeekFrom::Start(at))?;
     file.read(into)
+}
+
+/// The answer to a read. An error is counted as a fault.
+fn read_answer(faults: &mut u64, read: io::Result<usize>) -> Result<usize, Failed>
+    ensures done { result_ok result ≡ result_ok read }
+    ensures not_fewer { faults.old ≤ faults.new }
+    ensures faults { faults.new ≡ (if is_err result then next_count faults.old else faults.old) }
+{
+    answer(faults, read.ok())
 }
 
 /// The standard output. A write that takes nothing counts as a fault, as every error does.
@@ -78,13 +89,20 @@ impl<R: Print> Sink for StdSink<'_, R> {
 
     ghost faults = { λ sink. sink.faults };
 
+    ghost write_gives = { λ _ _ _ _. ⊤ };
+
     fn write(&mut self, piece: &[u8]) -> Result<usize, Failed> {
-        let count = match io::writer(self.rt).write(piece) {
-            Ok(count) if count > 0 => Some(count),
-            _ => None,
-        };
-        answer(&mut self.faults, count)
+        write_answer(&mut self.faults, io::writer(self.rt).write(piece))
     }
+}
+
+/// The answer to a write. An error is counted as a fault, and so is a write that took nothing.
+fn write_answer(faults: &mut u64, written: io::Result<usize>) -> Result<usize, Failed>
+    ensures done { result_ok result ≡ taken_count (result_ok written) }
+    ensures not_fewer { faults.old ≤ faults.new }
+    ensures faults { faults.new ≡ (if is_err result then next_count faults.old else faults.old) }
+{
+    answer(faults, written.ok().filter(|count| *count > 0))
 }
 
 /// Counts a fault where nothing was done.

@@ -1,6 +1,6 @@
 //! A shelf in memory, of which chosen calls fail.
 
-ghost use Rattle.std.specs.Prelude.{◌≡◌, ◌⊎◌, ◌≤◌, ◌+◌, ◌↔◌, length, IfOk, OnErr, IsErr, IsTrue};
+ghost use Rattle.std.specs.Prelude.{◌≡◌, ◌⊎◌, ◌≤◌, ◌+◌, ◌↔◌, length, IfOk, OnErr, OnOk, IsErr, IsTrue};
 ghost use Rattle.std.specs.Option.{option_copied};
 ghost use Rattle.perm_base.specs.Calls.{is_next_failing, faults_after};
 ghost use Rattle.perm_base.specs.Counts.{Rose, next_count};
@@ -10,14 +10,14 @@ ghost use Rattle.perm_base.specs.MemFiles.{files_of, told_of, copied_count, copi
 use crate::outside::{Failed, Shelf};
 
 /// A file in memory.
-#[derive(Drop)]
+#[derive(Debug, Drop)]
 pub struct MemFile {
     pub path: String,
     pub bytes: Vec<u8>,
 }
 
 /// Files in memory; of equal paths the first counts.
-#[derive(Drop)]
+#[derive(Debug, Drop)]
 pub struct MemShelf {
     pub files: Vec<MemFile>,
     /// The numbers of the calls that fail. The first call has the number 1.
@@ -35,10 +35,14 @@ impl Shelf for MemShelf {
 
     ghost reads = { λ shelf. shelf.calls };
 
+    ghost read_gives = { λ old _ _ _ _ new. new.calls ≡ next_count old.calls };
+
     fn read(&mut self, path: &str, at: u64, into: &mut [u8]) -> Result<usize, Failed>
         ensures unchanged { told_of self.new.files.items ≡ told_of self.old.files.items }
         ensures not_fewer { self.old.faults ≤ self.new.faults }
+        ensures no_fault { OnOk result (self.new.faults ≡ self.old.faults) }
         ensures reads { self.new.calls ≤ self.old.calls + 1 }
+        ensures given { self.new.calls ≡ next_count self.old.calls }
 
         ensures within { IfOk result (λ n. n ≤ length into.new) }
         ensures copied { IfOk result (λ n.

@@ -1,6 +1,6 @@
 //! A sink in memory, with room for a number of bytes, of which chosen calls fail.
 
-ghost use Rattle.std.specs.Prelude.{◌≡◌, ◌⊎◌, ◌≤◌, ◌<◌, ◌-◌, ◌↔◌, [], ◌++◌, length, take, min, Some, IfOk, OnErr, IsErr, IsTrue, is_err, if◌then◌else◌, vec_len, vec_capacity};
+ghost use Rattle.std.specs.Prelude.{◌≡◌, ◌⊎◌, ◌≤◌, ◌<◌, ◌-◌, ◌↔◌, [], ◌++◌, length, take, min, Some, IfOk, OnErr, OnOk, IsErr, IsTrue, is_err, if◌then◌else◌, vec_len, vec_capacity};
 ghost use Rattle.perm_base.specs.Calls.{is_next_failing};
 ghost use Rattle.perm_base.specs.Counts.{Rose, next_count};
 ghost use Rattle.perm_base.specs.Pieces.{appended};
@@ -10,7 +10,7 @@ use perm_tree::errors::NoMemory;
 use std::alloc::Global;
 
 /// Takes the output into memory.
-#[derive(Drop)]
+#[derive(Debug, Drop)]
 pub struct MemSink {
     /// What was taken.
     pub taken: Vec<u8>,
@@ -57,11 +57,16 @@ impl Sink for MemSink {
 
     ghost faults = { λ sink. sink.faults };
 
+    ghost write_gives = { λ old _ _ new. new.calls ≡ next_count old.calls };
+
     /// Takes no memory.
     fn write(&mut self, piece: &[u8]) -> Result<usize, Failed>
         requires { 0 < length piece.now }
 
         ensures not_fewer { self.old.faults ≤ self.new.faults }
+        ensures no_fault { OnOk result (self.new.faults ≡ self.old.faults) }
+        ensures given { self.new.calls ≡ next_count self.old.calls }
+
         ensures within { IfOk result (λ n. n ≤ length piece.now) }
         ensures some { IfOk result (λ n. 0 < n) }
         ensures taken { IfOk result (λ n.
@@ -75,7 +80,6 @@ impl Sink for MemSink {
             ⊎ (vec_len self.old.taken ≡ self.old.room)) }
         ensures gives { IfOk result (λ n. let free = self.old.room - vec_len self.old.taken in
             n ≡ min self.old.step (min free (length piece.now))) }
-        ensures calls { self.new.calls ≡ next_count self.old.calls }
         ensures faults { self.new.faults
             ≡ (if is_err result then next_count self.old.faults else self.old.faults) }
         ensures room { self.new.room ≡ self.old.room }

@@ -3,11 +3,12 @@
 ghost use Rattle.std.specs.Prelude.{◌≡◌, ◌⊎◌, ◌+◌, ◌<◌, ◌≤◌, List, ℕ, ◌++◌, length, take, vec_len, IfOk, IfErr, IfSome, IsErrOf, Some};
 ghost use Rattle.perm_base.specs.Counts.{Rose};
 ghost use Rattle.perm_base.specs.Files.{HasFile, HasNoFile, WhereTold, Copies};
-ghost use Rattle.perm_base.specs.Reads.{HasCause, IsAnswerFor};
-ghost use Rattle.perm_base.specs.declared.reading.ReadFault.TheVariants.{Fault, NoMemory};
+ghost use Rattle.perm_base.specs.Reads.{AreReadsFor, GaveFor, HasCause, IsAnswerFor, LeavesCount};
+ghost use Rattle.perm_base.specs.declared.reading.ReadFault.TheVariants as causes;
 
 use crate::outside::{Failed, Shelf};
-use std::alloc::{AllocError, Global};
+use perm_tree::errors::NoMemory;
+use std::alloc::{AllocError, AllocFailed, Global};
 use thiserror::Error;
 
 /// The greatest limit that `read_text` is called with, in bytes.
@@ -31,15 +32,31 @@ pub enum ReadFault {
 }
 
 impl From<Failed> for ReadFault {
-    ghost from_gives = { λ _ e. e ≡ Fault };
+    ghost from_gives = { λ _ e. e ≡ causes.Fault };
 
     fn from(_: Failed) -> ReadFault {
         ReadFault::Fault
     }
 }
 
+impl From<NoMemory> for ReadFault {
+    ghost from_gives = { λ _ e. e ≡ causes.NoMemory };
+
+    fn from(_: NoMemory) -> ReadFault {
+        ReadFault::NoMemory
+    }
+}
+
+impl<T: Drop> From<AllocFailed<T>> for ReadFault {
+    ghost from_gives = { λ _ e. e ≡ causes.NoMemory };
+
+    fn from(_: AllocFailed<T>) -> ReadFault {
+        ReadFault::NoMemory
+    }
+}
+
 impl From<AllocError> for ReadFault {
-    ghost from_gives = { λ _ e. e ≡ NoMemory };
+    ghost from_gives = { λ _ e. e ≡ causes.NoMemory };
 
     fn from(_: AllocError) -> ReadFault {
         ReadFault::NoMemory
@@ -73,7 +90,9 @@ pub fn read_text<F: Shelf>(
 
     ensures unchanged { F.told shelf.new ≡ F.told shelf.old }
     ensures not_fewer { F.faults shelf.old ≤ F.faults shelf.new }
+    ensures counts { LeavesCount result (F.faults shelf.old) (F.faults shelf.new) }
     ensures reads { F.reads shelf.new ≤ F.reads shelf.old + limit + 1 }
+    ensures pieces { AreReadsFor F.read_gives path.now limit shelf.old result shelf.new }
 {
     let most = limit as usize + 1;
     let mut text = Vec::new(alloc);
@@ -104,7 +123,9 @@ fn read_piece<F: Shelf>(
         HasCause e (F.told shelf.old) path.now (F.faults shelf.old) (F.faults shelf.new)) }
     ensures unchanged { F.told shelf.new ≡ F.told shelf.old }
     ensures not_fewer { F.faults shelf.old ≤ F.faults shelf.new }
+    ensures counts { LeavesCount result (F.faults shelf.old) (F.faults shelf.new) }
     ensures reads { F.reads shelf.new ≤ F.reads shelf.old + 1 }
+    ensures given { GaveFor (λ came. F.read_gives shelf.old path.now (vec_len text.old) (length piece.old) came shelf.new) result }
 {
     let read = shelf.read(path, text.len() as u64, piece)?;
     text.extend_from_slice(&piece[..read])?;
