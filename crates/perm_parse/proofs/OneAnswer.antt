@@ -1,4 +1,14 @@
 -- Tokens are one program or have one refusal, and not both.
+pub mod ArgumentRuns
+pub mod Completion
+pub mod Exactness
+pub mod ExpressionRuns
+pub mod GoodStates
+pub mod ProgramRuns
+pub mod Runs
+pub mod Soundness
+pub mod StatementRuns
+pub mod Steps
 use Rattle.std.proofs.Common.{◌≡◌, ℕ, ◌+◌, ◌<◌, ◌≤◌, ◌⊎◌, inl, inr, List, [], ◌∷◌, ◌++◌, length, take, drop, Option, Some, None, Result, Ok, Err, MatchResult, IfOk, refl, sym, ap, ◌∙◌, ◌≢◌, subst, append-nil, append_assoc, arith}
 use Rattle.std.specs.Prelude.{IfErr}
 use Rattle.std.proofs.lemmas.List.{length-take, take-append-drop, take-append-le}
@@ -15,7 +25,7 @@ use Rattle.perm_parse.specs.Meaning.{meaning}
 use Rattle.perm_parse.specs.Parses.{Parses, IsFront, IsFirstDead, IsTooDeepAt, IsUnexpected, IsRefused, HasOneAnswer, Shallow}
 use Rattle.perm_parse.specs.Answers.{Answer, parsed, unexpected, too_deep, went, read_from, start, read, IsAnswer}
 use Rattle.perm_parse.specs.ReadingMembers.{Gives}
-use Rattle.perm_parse.proofs.Exact.{complete, exact}
+use Rattle.perm_parse.proofs.OneAnswer.Exactness.{complete, exact}
 
 -- ---- what the levels of a walk say of the reading
 

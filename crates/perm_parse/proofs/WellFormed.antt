@@ -1,4 +1,9 @@
 -- The program that the tokens of a text are has its names, and is in text order.
+pub mod ClassMentions
+pub mod DeclaredNames
+pub mod DistinctWords
+pub mod ExpressionMarks
+pub mod ProgramMarks
 use Rattle.std.proofs.Common.{◌≡◌, ℕ, ◌<◌, ◌≤◌, List, [], ◌++◌, length, Ok, subst}
 use Rattle.std.specs.Prelude.{All, AllPairs, map, flat_map}
 use Rattle.perm_tree.specs.Places.{Listing}
@@ -9,12 +14,12 @@ use Rattle.perm_parse.specs.Grammar.{Classes, program_text}
 use Rattle.perm_parse.specs.Meaning.{meaning}
 use Rattle.perm_parse.specs.Parses.{Parses}
 use Rattle.perm_parse.specs.ReadingMembers.{Gives}
-use Rattle.perm_parse.proofs.Declared.{below-both, meaning-classes, meaning-fields}
-use Rattle.perm_parse.proofs.Marking.{AreInOrder, in-order}
-use Rattle.perm_parse.proofs.MarkingTrees.{meaning-marked, meaning-rising}
-use Rattle.perm_parse.proofs.Mentioning.{meaning-mentioned}
+use Rattle.perm_parse.proofs.WellFormed.DeclaredNames.{below-both, meaning-classes, meaning-fields}
+use Rattle.perm_parse.proofs.WellFormed.ExpressionMarks.{AreInOrder, in-order}
+use Rattle.perm_parse.proofs.WellFormed.ProgramMarks.{meaning-marked, meaning-rising}
+use Rattle.perm_parse.proofs.WellFormed.ClassMentions.{meaning-mentioned}
 use Rattle.perm_parse.proofs.OneAnswer.{gives-program}
-use Rattle.perm_parse.proofs.Wording.{meaning-words}
+use Rattle.perm_parse.proofs.WellFormed.DistinctWords.{meaning-words}
 
 -- the program that a tree means, where its tokens are in order
 meaning-orderly : (text : List ℕ) (tokens : List Token) (tree : Classes) → AreInOrder 0 tokens → program_text tree [] ≡ tokens → IsOrderly (meaning text tree)

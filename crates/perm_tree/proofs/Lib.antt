@@ -1,14 +1,12 @@
 pub mod AcceptedNames
 pub mod Builder
-pub mod CanonicalRows
 pub mod ClassMaps
 pub mod CodeLaws
-pub mod CodeRows
 pub mod Entries
+pub mod Examples
 pub mod Lows
 pub mod MentionLaws
 pub mod MethodMarks
-pub mod NameRows
 pub mod Nested
 pub mod ParPrograms
 pub mod Passing
@@ -17,7 +15,6 @@ pub mod PrintMembers
 pub mod PrintStacks
 pub mod PrintSteps
 pub mod PrintTexts
-pub mod ProgramTexts
 pub mod Programs
 pub mod Pushes
 pub mod ResolvedLaws

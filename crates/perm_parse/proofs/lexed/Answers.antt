@@ -1,5 +1,5 @@
 use Rattle.perm_lex.proofs.Answers.{pairs}
-use Rattle.perm_parse.proofs.Chained.{lexed-over, lexed-few, lexed-some}
+use Rattle.perm_parse.proofs.Descent.TextTokens.{lexed-over, lexed-few, lexed-some}
 use Rattle.perm_parse.proofs.lexed.Goals as goal
 
 pub returns-clause-over : goal.returns-clause-over

@@ -1,4 +1,4 @@
-use Rattle.perm_parse.proofs.CanonicalPrograms.{reads_back, reads_only_back}
+use Rattle.perm_parse.proofs.RoundTrip.{reads_back, reads_only_back}
 use Rattle.perm_parse.proofs.reads_back.Goals as goal
 
 pub returns-clause-read : goal.returns-clause-read

@@ -8,8 +8,8 @@ use Rattle.perm_parse.specs.Reading.{Opened}
 use Rattle.perm_tree.specs.declared.tokens.TokenKind.TheVariants as kind
 use Rattle.perm_tree.specs.declared.ast.Expr.TheVariants as node
 use Rattle.perm_parse.specs.Grammar.{ExprTree}
-use Rattle.perm_parse.proofs.Operands.{leaf, variable, prefixed-refused, prefixed-err, prefixed-ok, parens-refused, parens-err, parens-missing, parens-ok, no-operand, no-start, some-token, turn-err, turn-ok, closed-here}
-use Rattle.perm_parse.proofs.Leading.{onward-via, onward-ahead, onward-same}
+use Rattle.perm_parse.proofs.Descent.Operands.{leaf, variable, prefixed-refused, prefixed-err, prefixed-ok, parens-refused, parens-err, parens-missing, parens-ok, no-operand, no-start, some-token, turn-err, turn-ok, closed-here}
+use Rattle.perm_parse.proofs.Descent.TokenSteps.{onward-via, onward-ahead, onward-same}
 use Rattle.perm_parse.specs.Machine.{step_operand}
 use Rattle.perm_parse.proofs.parser.Parser.+expressions.Goals as goal
 

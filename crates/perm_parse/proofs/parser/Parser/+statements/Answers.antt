@@ -3,12 +3,12 @@ use Rattle.std.proofs.lemmas.Result.{err_from_is_err_and}
 use Rattle.perm_tree.proofs.Pushes.{all_more}
 use Rattle.perm_tree.specs.declared.tokens.Token.{Token}
 use Rattle.perm_parse.specs.States.{State}
-use Rattle.perm_parse.proofs.Leading.{at-end, onward-same, onward-via}
-use Rattle.perm_parse.proofs.Choosing.{plain-other}
-use Rattle.perm_parse.proofs.Listing.{below-more, stmts-none, stmts-err, stmts-more, block-not-opened, block-stmts, block-not-closed, block-ok}
-use Rattle.perm_parse.proofs.Recovering.{RecoverPath, GivePath, recover-not-opened, recover-stmts, recover-no-give, recover-no-name, recover-no-end, recover-not-closed, recover-no-last, recover-ok}
-use Rattle.perm_parse.proofs.Targets.{assign-no-sign, assign-value, assign-is, local-err, declare-is, local-no-sign, local-value, local-is}
-use Rattle.perm_parse.proofs.Branching.{IfPath, while-test, while-body, while-is, par-left, par-right, par-is, if-test, if-first, if-is, else-block, else-is}
+use Rattle.perm_parse.proofs.Descent.TokenSteps.{at-end, onward-same, onward-via}
+use Rattle.perm_parse.proofs.Descent.FirstTokens.{plain-other}
+use Rattle.perm_parse.proofs.Descent.Blocks.{below-more, stmts-none, stmts-err, stmts-more, block-not-opened, block-stmts, block-not-closed, block-ok}
+use Rattle.perm_parse.proofs.Descent.RecoverBlocks.{RecoverPath, GivePath, recover-not-opened, recover-stmts, recover-no-give, recover-no-name, recover-no-end, recover-not-closed, recover-no-last, recover-ok}
+use Rattle.perm_parse.proofs.Descent.Targets.{assign-no-sign, assign-value, assign-is, local-err, declare-is, local-no-sign, local-value, local-is}
+use Rattle.perm_parse.proofs.Descent.Branches.{IfPath, while-test, while-body, while-is, par-left, par-right, par-is, if-test, if-first, if-is, else-block, else-is}
 use Rattle.perm_parse.proofs.parser.Parser.+statements.Goals as goal
 
 -- ---- stmts

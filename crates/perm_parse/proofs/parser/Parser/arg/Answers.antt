@@ -1,5 +1,5 @@
 use Rattle.std.proofs.lemmas.Result.{err_from_is_err_and}
-use Rattle.perm_parse.proofs.Passing.{plain-err, plain-ok}
+use Rattle.perm_parse.proofs.Descent.Arguments.{plain-err, plain-ok}
 use Rattle.perm_parse.proofs.parser.Parser.arg.Goals as goal
 
 pub returns-in_err-value-clause-reads : goal.returns-in_err-value-clause-reads

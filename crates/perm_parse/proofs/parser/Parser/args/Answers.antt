@@ -1,8 +1,8 @@
 use Rattle.std.proofs.Common.{◌≡◌, ◌++◌, ◌∷◌, [], List, ◌∙◌, ap}
 use Rattle.std.proofs.lemmas.Result.{err_from_is_err_and}
 use Rattle.perm_tree.specs.declared.ast.Arg.{Arg}
-use Rattle.perm_parse.proofs.Leading.{onward-via}
-use Rattle.perm_parse.proofs.Passing.{args-none, first-err, first-ok, more-err, more-ok, end-err, end-ok, placed-more}
+use Rattle.perm_parse.proofs.Descent.TokenSteps.{onward-via}
+use Rattle.perm_parse.proofs.Descent.Arguments.{args-none, first-err, first-ok, more-err, more-ok, end-err, end-ok, placed-more}
 use Rattle.perm_parse.proofs.parser.Parser.args.Goals as goal
 
 pub returns-then-next_is-clause-reads : goal.returns-then-next_is-clause-reads

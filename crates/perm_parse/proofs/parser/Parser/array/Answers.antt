@@ -1,5 +1,5 @@
 use Rattle.std.proofs.lemmas.Result.{err_from_is_err_and}
-use Rattle.perm_parse.proofs.Typing.{array-not-opened, array-not-closed, array-ok}
+use Rattle.perm_parse.proofs.Descent.Types.{array-not-opened, array-not-closed, array-ok}
 use Rattle.perm_parse.proofs.parser.Parser.array.Goals as goal
 
 pub returns-in_err-_opening-clause-reads : goal.returns-in_err-_opening-clause-reads

@@ -1,5 +1,5 @@
 use Rattle.std.proofs.lemmas.Result.{err_from_is_err_and}
-use Rattle.perm_parse.proofs.Making.{array-not-opened, array-count, array-not-closed, array-no-end, array-ok, second-missed}
+use Rattle.perm_parse.proofs.Descent.NewValues.{array-not-opened, array-count, array-not-closed, array-no-end, array-ok, second-missed}
 use Rattle.perm_parse.proofs.parser.Parser.array_value.Goals as goal
 
 pub returns-in_err-_long-clause-reads : goal.returns-in_err-_long-clause-reads

@@ -1,5 +1,5 @@
 use Rattle.std.proofs.lemmas.Result.{err_from_is_err_and}
-use Rattle.perm_parse.proofs.ClassParts.{ClassPath, class-missing, class-no-name, class-not-opened, class-members, class-added}
+use Rattle.perm_parse.proofs.Descent.ClassParts.{ClassPath, class-missing, class-no-name, class-not-opened, class-members, class-added}
 use Rattle.perm_parse.proofs.parser.Parser.class.Goals as goal
 
 pub returns-in_err-_word-clause-reads : goal.returns-in_err-_word-clause-reads

@@ -1,5 +1,5 @@
 use Rattle.std.proofs.lemmas.Result.{err_from_is_err_and}
-use Rattle.perm_parse.proofs.Passing.{consumed-missing, consumed-ok}
+use Rattle.perm_parse.proofs.Descent.Arguments.{consumed-missing, consumed-ok}
 use Rattle.perm_parse.proofs.parser.Parser.consumed.Goals as goal
 
 pub returns-in_err-token-clause-reads : goal.returns-in_err-token-clause-reads

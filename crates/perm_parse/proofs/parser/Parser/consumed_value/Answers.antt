@@ -1,5 +1,5 @@
 use Rattle.std.proofs.lemmas.Result.{err_from_is_err_and}
-use Rattle.perm_parse.proofs.Using.{consumed-no-name, consumed-no-end, consumed-ok, taken-no-member, taken-no-end, taken-ok}
+use Rattle.perm_parse.proofs.Descent.VariableValues.{consumed-no-name, consumed-no-end, consumed-ok, taken-no-member, taken-no-end, taken-ok}
 use Rattle.perm_parse.proofs.parser.Parser.consumed_value.Goals as goal
 
 pub returns-in_err-token-clause-reads : goal.returns-in_err-token-clause-reads

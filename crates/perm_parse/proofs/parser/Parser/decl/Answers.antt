@@ -1,5 +1,5 @@
 use Rattle.std.proofs.lemmas.Result.{err_from_is_err_and}
-use Rattle.perm_parse.proofs.Parameters.{decl-no-name, decl-ok}
+use Rattle.perm_parse.proofs.Descent.Parameters.{decl-no-name, decl-ok}
 use Rattle.perm_parse.proofs.parser.Parser.decl.Goals as goal
 
 pub returns-in_err-token-clause-reads : goal.returns-in_err-token-clause-reads

@@ -1,6 +1,6 @@
 use Rattle.std.proofs.Common.{refl}
 use Rattle.std.proofs.lemmas.Result.{err_from_is_err_and}
-use Rattle.perm_parse.proofs.Ending.{no-end, end-is}
+use Rattle.perm_parse.proofs.Descent.StatementEnds.{no-end, end-is}
 use Rattle.perm_parse.proofs.parser.Parser.end_stmt.Goals as goal
 
 pub returns-in_err-end-clause-ends : goal.returns-in_err-end-clause-ends

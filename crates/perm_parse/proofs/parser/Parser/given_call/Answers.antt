@@ -1,5 +1,5 @@
 use Rattle.std.proofs.lemmas.Result.{err_from_is_err_and}
-use Rattle.perm_parse.proofs.Giving.{GivenPath, given-no-name, given-not-closed, given-no-dot, given-no-member, given-not-opened, given-args, given-ok}
+use Rattle.perm_parse.proofs.Descent.ConsumedReceivers.{GivenPath, given-no-name, given-not-closed, given-no-dot, given-no-member, given-not-opened, given-args, given-ok}
 use Rattle.perm_parse.proofs.parser.Parser.given_call.Goals as goal
 
 pub returns-in_err-token-clause-reads : goal.returns-in_err-token-clause-reads

@@ -1,5 +1,5 @@
 use Rattle.std.proofs.lemmas.Result.{err_from_is_err_and}
-use Rattle.perm_parse.proofs.Standing.{given-not-opened, given-no-word, given-call, given-is}
+use Rattle.perm_parse.proofs.Descent.CallStatements.{given-not-opened, given-no-word, given-call, given-is}
 use Rattle.perm_parse.proofs.parser.Parser.given_stmt.Goals as goal
 
 pub returns-in_err-opening-clause-reads : goal.returns-in_err-opening-clause-reads

@@ -1,5 +1,5 @@
 use Rattle.std.proofs.lemmas.Result.{err_from_is_err_and}
-use Rattle.perm_parse.proofs.Giving.{value-not-opened, word-missed, value-call, value-no-end, value-ok}
+use Rattle.perm_parse.proofs.Descent.ConsumedReceivers.{value-not-opened, word-missed, value-call, value-no-end, value-ok}
 use Rattle.perm_parse.proofs.parser.Parser.given_value.Goals as goal
 
 pub returns-in_err-_opening-clause-reads : goal.returns-in_err-_opening-clause-reads

@@ -1,6 +1,6 @@
 use Rattle.std.proofs.lemmas.Result.{err_from_is_err_and}
-use Rattle.perm_parse.proofs.Using.{var-missed}
-use Rattle.perm_parse.proofs.Setting.{ItemPath, item-not-opened, item-index, item-not-closed, item-no-equals, item-no-value, item-is}
+use Rattle.perm_parse.proofs.Descent.VariableValues.{var-missed}
+use Rattle.perm_parse.proofs.Descent.HeapWrites.{ItemPath, item-not-opened, item-index, item-not-closed, item-no-equals, item-no-value, item-is}
 use Rattle.perm_parse.proofs.parser.Parser.item_stmt.Goals as goal
 
 pub returns-in_err-token-clause-reads : goal.returns-in_err-token-clause-reads

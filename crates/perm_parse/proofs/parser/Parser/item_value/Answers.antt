@@ -1,5 +1,5 @@
 use Rattle.std.proofs.lemmas.Result.{err_from_is_err_and}
-use Rattle.perm_parse.proofs.Using.{item-not-opened, item-index, item-not-closed, item-no-end, item-ok, var-missed}
+use Rattle.perm_parse.proofs.Descent.VariableValues.{item-not-opened, item-index, item-not-closed, item-no-end, item-ok, var-missed}
 use Rattle.perm_parse.proofs.parser.Parser.item_value.Goals as goal
 
 pub returns-in_err-token-clause-reads : goal.returns-in_err-token-clause-reads

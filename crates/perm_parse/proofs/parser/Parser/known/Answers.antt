@@ -1,4 +1,4 @@
-use Rattle.perm_parse.proofs.Numbering.{known-is}
+use Rattle.perm_parse.proofs.Descent.NameNumbers.{known-is}
 use Rattle.perm_parse.proofs.parser.Parser.known.Goals as goal
 
 pub returns : goal.returns

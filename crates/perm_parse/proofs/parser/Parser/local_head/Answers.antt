@@ -1,6 +1,6 @@
 use Rattle.std.proofs.Common.{sym, ◌∙◌}
 use Rattle.std.proofs.lemmas.Result.{err_from_is_err_and}
-use Rattle.perm_parse.proofs.Declaring.{type-missed, local-no-type, local-no-name, local-ok}
+use Rattle.perm_parse.proofs.Descent.LocalDeclarations.{type-missed, local-no-type, local-no-name, local-ok}
 use Rattle.perm_parse.proofs.parser.Parser.local_head.Goals as goal
 
 pub returns-in_default-clause-reads : goal.returns-in_default-clause-reads

@@ -1,6 +1,6 @@
 use Rattle.std.proofs.lemmas.Result.{err_from_is_err_and}
-use Rattle.perm_parse.proofs.ClassParts.{on-ok, member-no-decl, member-no-method, member-no-end, method-added, field-added, method-placed, field-placed}
-use Rattle.perm_parse.proofs.Leading.{onward-via}
+use Rattle.perm_parse.proofs.Descent.ClassParts.{on-ok, member-no-decl, member-no-method, member-no-end, method-added, field-added, method-placed, field-placed}
+use Rattle.perm_parse.proofs.Descent.TokenSteps.{onward-via}
 use Rattle.perm_parse.proofs.parser.Parser.member.Goals as goal
 
 pub returns-in_err-head-clause-reads : goal.returns-in_err-head-clause-reads

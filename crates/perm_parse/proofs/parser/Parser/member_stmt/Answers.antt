@@ -1,9 +1,9 @@
 use Rattle.std.proofs.Common.{refl}
 use Rattle.std.proofs.lemmas.Result.{err_from_is_err_and}
-use Rattle.perm_parse.proofs.Using.{var-missed}
-use Rattle.perm_parse.proofs.Calling.{MemberPath, dot-missed}
-use Rattle.perm_parse.proofs.Setting.{no-member, field-no-equals, field-no-value, field-is}
-use Rattle.perm_parse.proofs.Standing.{call-not-opened, call-args, call-is}
+use Rattle.perm_parse.proofs.Descent.VariableValues.{var-missed}
+use Rattle.perm_parse.proofs.Descent.MemberValues.{MemberPath, dot-missed}
+use Rattle.perm_parse.proofs.Descent.HeapWrites.{no-member, field-no-equals, field-no-value, field-is}
+use Rattle.perm_parse.proofs.Descent.CallStatements.{call-not-opened, call-args, call-is}
 use Rattle.perm_parse.proofs.parser.Parser.member_stmt.Goals as goal
 
 pub returns-in_err-token-clause-reads : goal.returns-in_err-token-clause-reads

@@ -1,6 +1,6 @@
 use Rattle.std.proofs.lemmas.Result.{err_from_is_err_and}
-use Rattle.perm_parse.proofs.Using.{var-missed}
-use Rattle.perm_parse.proofs.Calling.{MemberPath, dot-missed, no-member, field-no-end, field-ok, call-not-opened, call-args, call-no-end, call-ok}
+use Rattle.perm_parse.proofs.Descent.VariableValues.{var-missed}
+use Rattle.perm_parse.proofs.Descent.MemberValues.{MemberPath, dot-missed, no-member, field-no-end, field-ok, call-not-opened, call-args, call-no-end, call-ok}
 use Rattle.perm_parse.proofs.parser.Parser.member_value.Goals as goal
 
 pub returns-in_err-token-clause-reads : goal.returns-in_err-token-clause-reads

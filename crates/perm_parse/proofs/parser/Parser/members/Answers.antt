@@ -1,6 +1,6 @@
 use Rattle.std.proofs.Common.{◌∙◌}
-use Rattle.perm_parse.proofs.ClassParts.{members-more, members-end}
-use Rattle.perm_parse.proofs.Leading.{onward-via}
+use Rattle.perm_parse.proofs.Descent.ClassParts.{members-more, members-end}
+use Rattle.perm_parse.proofs.Descent.TokenSteps.{onward-via}
 use Rattle.perm_parse.proofs.parser.Parser.members.Goals as goal
 
 pub members-preserved : goal.members-preserved

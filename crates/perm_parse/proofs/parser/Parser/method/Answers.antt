@@ -1,5 +1,5 @@
 use Rattle.perm_tree.proofs.Pushes.{all_more}
-use Rattle.perm_parse.proofs.Methods.{method-ok}
+use Rattle.perm_parse.proofs.Descent.Methods.{method-ok}
 use Rattle.perm_parse.proofs.parser.Parser.method.Goals as goal
 
 pub returns-clause-reads : goal.returns-clause-reads

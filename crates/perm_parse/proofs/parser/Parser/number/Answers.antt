@@ -1,5 +1,5 @@
 use Rattle.std.proofs.Common.{sym, ◌∙◌, rules}
-use Rattle.perm_parse.proofs.Numbering.{ok-has, new-name}
+use Rattle.perm_parse.proofs.Descent.NameNumbers.{ok-has, new-name}
 use Rattle.perm_parse.proofs.parser.Parser.number.Goals as goal
 
 pub invariant_of-self-2-clause-indexed : goal.invariant_of-self-2-clause-indexed

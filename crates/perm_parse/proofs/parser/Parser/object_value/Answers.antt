@@ -1,5 +1,5 @@
 use Rattle.std.proofs.lemmas.Result.{err_from_is_err_and}
-use Rattle.perm_parse.proofs.Making.{object-no-name, object-not-opened, object-not-closed, object-no-end, object-ok}
+use Rattle.perm_parse.proofs.Descent.NewValues.{object-no-name, object-not-opened, object-not-closed, object-no-end, object-ok}
 use Rattle.perm_parse.proofs.parser.Parser.object_value.Goals as goal
 
 pub returns-in_err-token-clause-reads : goal.returns-in_err-token-clause-reads

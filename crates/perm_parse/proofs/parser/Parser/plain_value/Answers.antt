@@ -1,5 +1,5 @@
 use Rattle.std.proofs.lemmas.Result.{err_from_is_err_and}
-use Rattle.perm_parse.proofs.Assigned.{plain-err, plain-missing, plain-ok}
+use Rattle.perm_parse.proofs.Descent.RightSides.{plain-err, plain-missing, plain-ok}
 use Rattle.perm_parse.proofs.parser.Parser.plain_value.Goals as goal
 
 pub returns-in_err-e-clause-reads : goal.returns-in_err-e-clause-reads

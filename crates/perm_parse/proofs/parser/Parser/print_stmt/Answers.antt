@@ -1,6 +1,6 @@
 use Rattle.std.proofs.Common.{refl}
 use Rattle.std.proofs.lemmas.Result.{err_from_is_err_and}
-use Rattle.perm_parse.proofs.Printing.{print-value, print-no-end, print-is}
+use Rattle.perm_parse.proofs.Descent.PrintStatements.{print-value, print-no-end, print-is}
 use Rattle.perm_parse.proofs.parser.Parser.print_stmt.Goals as goal
 
 pub returns-in_err-value-clause-reads : goal.returns-in_err-value-clause-reads

@@ -1,6 +1,6 @@
 use Rattle.std.proofs.Common.{subst, Ok}
 use Rattle.perm_parse.specs.Reading.{Expected}
-use Rattle.perm_parse.proofs.Typing.{reference-is}
+use Rattle.perm_parse.proofs.Descent.Types.{reference-is}
 use Rattle.perm_parse.proofs.parser.Parser.reference.Goals as goal
 
 pub returns-clause-reads : goal.returns-clause-reads

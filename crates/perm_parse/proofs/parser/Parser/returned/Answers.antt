@@ -1,5 +1,5 @@
 use Rattle.std.proofs.lemmas.Result.{err_from_is_err_and}
-use Rattle.perm_parse.proofs.Methods.{returned-missing, returned-arg, returned-no-end, returned-no-brace, returned-ok}
+use Rattle.perm_parse.proofs.Descent.Methods.{returned-missing, returned-arg, returned-no-end, returned-no-brace, returned-ok}
 use Rattle.perm_parse.proofs.parser.Parser.returned.Goals as goal
 
 pub returns-in_err-word-clause-reads : goal.returns-in_err-word-clause-reads

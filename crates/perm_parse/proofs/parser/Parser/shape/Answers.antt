@@ -1,5 +1,5 @@
 use Rattle.std.proofs.lemmas.Result.{err_from_is_err_and}
-use Rattle.perm_parse.proofs.Typing.{object-missing, object-ok}
+use Rattle.perm_parse.proofs.Descent.Types.{object-missing, object-ok}
 use Rattle.perm_parse.proofs.parser.Parser.shape.Goals as goal
 
 pub returns-in_err-token-clause-reads : goal.returns-in_err-token-clause-reads

@@ -1,5 +1,5 @@
 use Rattle.std.proofs.lemmas.Result.{err_from_is_err_and}
-use Rattle.perm_parse.proofs.Methods.{signature-not-opened, signature-params, signature-perm, signature-no-body, signature-ok}
+use Rattle.perm_parse.proofs.Descent.Methods.{signature-not-opened, signature-params, signature-perm, signature-no-body, signature-ok}
 use Rattle.perm_parse.proofs.parser.Parser.signature.Goals as goal
 
 pub returns-in_err-_opening-clause-reads : goal.returns-in_err-_opening-clause-reads

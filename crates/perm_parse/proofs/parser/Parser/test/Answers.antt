@@ -1,5 +1,5 @@
 use Rattle.std.proofs.lemmas.Result.{err_from_is_err_and}
-use Rattle.perm_parse.proofs.Branching.{test-not-opened, test-value, test-not-closed, test-ok}
+use Rattle.perm_parse.proofs.Descent.Branches.{test-not-opened, test-value, test-not-closed, test-ok}
 use Rattle.perm_parse.proofs.parser.Parser.test.Goals as goal
 
 pub returns-in_err-_opening-clause-reads : goal.returns-in_err-_opening-clause-reads

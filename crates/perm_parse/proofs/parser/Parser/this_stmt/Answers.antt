@@ -1,4 +1,4 @@
-use Rattle.perm_parse.proofs.Targets.{this-alone}
+use Rattle.perm_parse.proofs.Descent.Targets.{this-alone}
 use Rattle.perm_parse.proofs.parser.Parser.this_stmt.Goals as goal
 
 pub returns-clause-reads : goal.returns-clause-reads

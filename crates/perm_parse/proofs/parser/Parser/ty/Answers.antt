@@ -2,8 +2,8 @@ use Rattle.std.proofs.Common.{sym, ◌∙◌, refl}
 use Rattle.perm_tree.specs.declared.tokens.TokenKind.TheVariants as kind
 use Rattle.perm_tree.specs.declared.ast.Ty.TheVariants.{Long, Bool}
 use Rattle.perm_parse.specs.Grammar.{TypeTree}
-use Rattle.perm_parse.proofs.Leading.{onward-same}
-use Rattle.perm_parse.proofs.Typing.{word-ok, type-dead, type-ends}
+use Rattle.perm_parse.proofs.Descent.TokenSteps.{onward-same}
+use Rattle.perm_parse.proofs.Descent.Types.{word-ok, type-dead, type-ends}
 use Rattle.perm_parse.proofs.parser.Parser.ty.Goals as goal
 
 pub returns-in_default-clause-reads : goal.returns-in_default-clause-reads

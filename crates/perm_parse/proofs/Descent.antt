@@ -1,0 +1,25 @@
+-- That the parser reads what the grammar says: what each arm of its descent does to the reading that is left, form by form.
+pub mod Arguments
+pub mod Blocks
+pub mod Branches
+pub mod CallStatements
+pub mod ClassParts
+pub mod ConsumedReceivers
+pub mod FirstTokens
+pub mod HeapWrites
+pub mod LocalDeclarations
+pub mod MemberValues
+pub mod Methods
+pub mod NameNumbers
+pub mod NewValues
+pub mod Operands
+pub mod Parameters
+pub mod PrintStatements
+pub mod RecoverBlocks
+pub mod RightSides
+pub mod StatementEnds
+pub mod Targets
+pub mod TextTokens
+pub mod TokenSteps
+pub mod Types
+pub mod VariableValues

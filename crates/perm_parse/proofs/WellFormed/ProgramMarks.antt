@@ -1,0 +1,264 @@
+-- The marks of statements, methods and classes stand at their tokens: a program is in text order where its tokens are.
+use Rattle.std.proofs.Common.{◌≡◌, ℕ, List, [], ◌∷◌, ◌++◌, length, map, refl, sym, ◌∙◌, ap, subst, arith, append-nil}
+use Rattle.std.specs.List.{flat_map}
+use Rattle.std.proofs.lemmas.Grind.{flat_map-append}
+use Rattle.std.proofs.lemmas.List.{map-append}
+use Rattle.perm_tree.specs.Places.{AllBelow, Listing}
+use Rattle.perm_tree.specs.TextOrder.{Mark, mark_names, Marks, AreRising, all_expr_marks, all_stmt_marks, marks_at, block_marks, rhs_marks, stmt_marks, params_marks, method_marks, methods_of, marks_of}
+use Rattle.perm_tree.specs.TextOrder.Mark.{names}
+use Rattle.perm_tree.specs.declared.ast.ClassDecl.{ClassDecl}
+use Rattle.perm_tree.specs.declared.ast.Expr.{Expr}
+use Rattle.perm_tree.specs.declared.ast.FieldDecl.{FieldDecl}
+use Rattle.perm_tree.specs.declared.ast.Method.{Method}
+use Rattle.perm_tree.specs.declared.ast.Perm.{Perm}
+use Rattle.perm_tree.specs.declared.ast.Stmt.{Stmt}
+use Rattle.perm_tree.specs.declared.tokens.Token.{Token}
+use Rattle.perm_parse.specs.Grammar.{TypeTree, ArgTree, TargetTree, RhsTree, BlockTree, StmtTree, Stmts, ParamList, Params, MemberTree, Members, Classes, target_text, rhs_text, block_text, stmt_text, stmts_text, type_text, param_list_text, params_text, member_text, members_text, program_text}
+use Rattle.perm_parse.specs.Meaning.{ident, var, span_over, type_of, expr_of, arg_of, target_of, head_last, block_last, rhs_of, block_of, stmt_of, stmts_of, push_stmt, param_list_of, params_of, method_of, member_of, members_of, classes_of, nothing_yet, meaning}
+use Rattle.perm_parse.proofs.WellFormed.DeclaredNames.{below-both}
+use Rattle.perm_parse.proofs.Walks.ListGrowth.{front-refl, front-length, Grows, then, push_stmt-grows, ident-grows, type-grows, expr-grows, arg-grows, rhs-grows, block-grows, stmt-grows, stmts-grows, params-grows, member-grows, members-grows, classes-grows}
+use Rattle.perm_parse.proofs.Walks.UnchangedClasses.{ident-keeps, members-keeps}
+use Rattle.perm_parse.proofs.WellFormed.ExpressionMarks.{AreInOrder, Told, rising-from, order-from, nothing, skip, ended, Under, before, entry-pushed, ident-told, var-told, type-told, expr-told, arg-told, call-told}
+
+-- ---- statements
+
+target-told : {n : ℕ} {vs : List Token} (text : List ℕ) (a : TargetTree) (s : Listing) {xs : List Expr} {ys : List Stmt} {us : List Token} {ms : List Mark} →
+    Under n xs ys (target_of text a s).2 → Told n vs us ms → Told n vs (target_text a us) (names (target_of text a s).1 ∷ ms)
+target-told text (TargetTree.known name) s u r = ident-told text name s u r
+target-told text (TargetTree.declared ty name) s u r = type-told ty (ident-told text name (type_of text ty s).1 u r)
+
+-- the marks of one statement more stand last
+block-last : (ss : List Marks) (list : List ℕ) (i : ℕ) (ms : List Mark) → block_marks ss (list ++ i ∷ []) ms ≡ block_marks ss list (marks_at ss i ms)
+block-last ss [] i ms = refl
+block-last ss (j ∷ list) i ms = ap (marks_at ss j) (block-last ss list i ms)
+
+-- the marks of a statement that was pushed are made of those of the statements before it
+pushed-told : {n : ℕ} {xs : List Expr} {ys : List Stmt} {vs us : List Token} (x : Stmt) (s : Listing) (ms : List Mark) →
+    Under n xs ys (push_stmt x s).1 → Told n vs us (stmt_marks (all_expr_marks xs) (all_stmt_marks xs s.stmts) x ms) → Told n vs us (marks_at (all_stmt_marks xs ys) (length s.stmts) ms)
+pushed-told {n} {xs} {ys} {vs} {us} x s ms u r =
+    subst (λ (m : Marks). Told n vs us (m ms)) (sym (entry-pushed (stmt_marks (all_expr_marks xs)) s.stmts ys x (λ ms. ms) u.stmts)) r
+
+-- a statement that isn't pushed yet
+abbrev unpushed : {n : ℕ} {xs : List Expr} {ys : List Stmt} (x : Stmt) (s : Listing) → Under n xs ys (push_stmt x s).1 → Under n xs s.stmts s
+unpushed x s u = record { some = u.some; names = u.names; exprs = u.exprs; stmts = front-refl s.stmts }
+
+mutual
+  -- a right side, whose head ends with the word `recover` or with the token behind it
+  rhs-told : {n : ℕ} {vs : List Token} (text : List ℕ) (a : RhsTree) (end : Token) (s : Listing) {xs : List Expr} {ys : List Stmt} {us : List Token} {ms : List Mark} →
+      Under n xs ys (rhs_of text a s).1 → Told n vs us ms → Told n vs (rhs_text a us) (rhs_marks (all_expr_marks xs) (all_stmt_marks xs ys) (head_last a end).span.end (rhs_of text a s).0 ms)
+  rhs-told text (RhsTree.value a) last s u r = arg-told text a s u r
+  rhs-told text (RhsTree.field name dot member) last s u r =
+      let x = var text name s in
+      var-told text name s (before (ident-grows text member x.1) u) (skip (ident-told text member x.1 u r))
+  rhs-told text (RhsTree.take_field word name dot member) last s u r =
+      let x = var text name s in
+      skip (var-told text name s (before (ident-grows text member x.1) u) (skip (ident-told text member x.1 u r)))
+  rhs-told text (RhsTree.item name opening e closing) last s u r =
+      let x = var text name s in
+      var-told text name s (before (expr-grows text e x.1) u) (skip (expr-told text e x.1 u (skip r)))
+  rhs-told {n} text (RhsTree.new_object word name opening closing) last s {xs} {ys} u r =
+      let v : Under n xs ys (ident text name s).1 = record { some = u.some; names = u.names; exprs = u.exprs; stmts = u.stmts } in
+      skip (ident-told text name s v (skip (skip r)))
+  rhs-told text (RhsTree.new_array word long opening e closing) last s u r = skip (skip (skip (expr-told text e s u (skip r))))
+  rhs-told text (RhsTree.called c) last s u r = call-told text c s u r
+  rhs-told text (RhsTree.recover word opening b give name end closing) last s u r =
+      let x = stmts_of text b s in
+      ended (skip (stmts-told text b s (before (ident-grows text name x.1) u) (skip (ident-told text name x.1 u (ended (skip r))))))
+
+  -- a block, behind which its last token tells what has ended with it
+  block-told : {n : ℕ} {vs : List Token} (text : List ℕ) (a : BlockTree) (s : Listing) {xs : List Expr} {ys : List Stmt} {us : List Token} {ms : List Mark} →
+      Under n xs ys (block_of text a s).1 → Told n vs (block_last a ∷ us) ms → Told n vs (block_text a us) (block_marks (all_stmt_marks xs ys) (block_of text a s).0.stmts ms)
+  block-told text (BlockTree.block opening b closing) s u r = skip (stmts-told text b s u r)
+
+  stmt-told : {n : ℕ} {vs : List Token} (text : List ℕ) (a : StmtTree) (s : Listing) {xs : List Expr} {ys : List Stmt} {us : List Token} {ms : List Mark} →
+      Under n xs ys (stmt_of text a s).1 → Told n vs us ms → Told n vs (stmt_text a us) (stmt_marks (all_expr_marks xs) (all_stmt_marks xs ys) (stmt_of text a s).0 ms)
+  stmt-told text (StmtTree.declare ty name end) s u r = type-told ty (ident-told text name (type_of text ty s).1 u (ended r))
+  stmt-told text (StmtTree.assign target equals a end) s u r =
+      let x = target_of text target s in
+      target-told text target s (before (rhs-grows text a x.2) u) (skip (rhs-told text a end x.2 u (ended r)))
+  stmt-told text (StmtTree.set_field name dot member equals a end) s u r =
+      let x = var text name s in
+      let y = ident text member x.1 in
+      let v = before (arg-grows text a y.1) u in
+      var-told text name s (before (ident-grows text member x.1) v) (skip (ident-told text member x.1 v (skip (arg-told text a y.1 u (ended r)))))
+  stmt-told text (StmtTree.set_item name opening i closing equals e end) s u r =
+      let x = var text name s in
+      let y = expr_of text i x.1 in
+      let v = before (expr-grows text e y.1) u in
+      var-told text name s (before (expr-grows text i x.1) v) (skip (expr-told text i x.1 v (skip (skip (expr-told text e y.1 u (ended r))))))
+  stmt-told text (StmtTree.run_call c end) s u r = call-told text c s u (ended r)
+  stmt-told text (StmtTree.print word e end) s u r = skip (expr-told text e s u (ended r))
+  stmt-told text (StmtTree.if_then word opening e closing a) s u r =
+      let x = expr_of text e s in
+      skip (skip (expr-told text e s (before (block-grows text a x.1) u) (ended (block-told text a x.1 u (ended r)))))
+  stmt-told text (StmtTree.if_else word opening e closing a otherwise b) s u r =
+      let x = expr_of text e s in
+      let y = block_of text a x.1 in
+      let v = before (block-grows text b y.1) u in
+      skip (skip (expr-told text e s (before (block-grows text a x.1) v) (ended (block-told text a x.1 v (skip (skip (block-told text b y.1 u (ended r))))))))
+  stmt-told text (StmtTree.repeat word opening e closing a) s u r =
+      let x = expr_of text e s in
+      skip (skip (expr-told text e s (before (block-grows text a x.1) u) (ended (block-told text a x.1 u (ended r)))))
+  stmt-told text (StmtTree.par word a b) s u r =
+      let x = block_of text a s in
+      ended (block-told text a s (before (block-grows text b x.1) u) (skip (block-told text b x.1 u (ended r))))
+
+  stmts-told : {n : ℕ} {vs : List Token} (text : List ℕ) (a : Stmts) (s : Listing) {xs : List Expr} {ys : List Stmt} {us : List Token} {ms : List Mark} →
+      Under n xs ys (stmts_of text a s).1 → Told n vs us ms → Told n vs (stmts_text a us) (block_marks (all_stmt_marks xs ys) (stmts_of text a s).0 ms)
+  stmts-told text Stmts.no_stmts s u r = r
+  stmts-told {n} {vs} text (Stmts.more_stmts b x) s {xs} {ys} {us} {ms} u r =
+      let y = stmts_of text b s in
+      let z = stmt_of text x y.1 in
+      let w = push_stmt z.0 z.1 in
+      let v = unpushed z.0 z.1 u in
+      let last : Told n vs (stmt_text x us) (marks_at (all_stmt_marks xs ys) w.0 ms) = pushed-told z.0 z.1 ms u (stmt-told text x y.1 v r) in
+      let front : Grows y.1 w.1 = then (stmt-grows text x y.1) (push_stmt-grows z.0 z.1) in
+      subst
+      (Told n vs (stmts_text b (stmt_text x us)))
+      (sym (block-last (all_stmt_marks xs ys) y.0 w.0 ms))
+      (stmts-told text b s (before front u) last)
+
+-- ---- methods
+
+-- the mark of one parameter more stands last
+params-last : (list : List FieldDecl) (f : FieldDecl) (ms : List Mark) → params_marks (list ++ f ∷ []) ms ≡ params_marks list (names f.name ∷ ms)
+params-last [] f ms = refl
+params-last (g ∷ list) f ms = ap (λ ks. names g.name ∷ ks) (params-last list f ms)
+
+param_list-told : {n : ℕ} {vs : List Token} (text : List ℕ) (a : ParamList) (s : Listing) {xs : List Expr} {ys : List Stmt} {us : List Token} {ms : List Mark} →
+    Under n xs ys (param_list_of text a s).1 → Told n vs us ms → Told n vs (param_list_text a us) (params_marks (param_list_of text a s).0 ms)
+param_list-told text (ParamList.one_param ty name) s u r = type-told ty (ident-told text name (type_of text ty s).1 u r)
+param_list-told {n} {vs} text (ParamList.more_params list comma ty name) s {us} {ms} u r =
+    let z = param_list_of text list s in
+    let x = type_of text ty z.1 in
+    let y = ident text name x.1 in
+    let f : FieldDecl = record { ty = x.0; name = y.0 } in
+    subst
+    (Told n vs (param_list_text list (comma ∷ type_text ty (name ∷ us))))
+    (sym (params-last z.0 f ms))
+    (param_list-told text list s (before (then (type-grows text ty z.1) (ident-grows text name x.1)) u) (skip (type-told ty (ident-told text name x.1 u r))))
+
+params-told : {n : ℕ} {vs : List Token} (text : List ℕ) (a : Params) (s : Listing) {xs : List Expr} {ys : List Stmt} {us : List Token} {ms : List Mark} →
+    Under n xs ys (params_of text a s).1 → Told n vs us ms → Told n vs (params_text a us) (params_marks (params_of text a s).0 ms)
+params-told text Params.no_params s u r = r
+params-told text (Params.params list) s u r = param_list-told text list s u r
+
+-- a method ends with the token behind its `return`
+method-told : {n : ℕ} {xs : List Expr} {ys : List Stmt} (text : List ℕ) (ty : TypeTree) (name opening : Token) (list : Params) (closing : Token) (p : Perm) (perm start : Token) (b : Stmts)
+    (word : Token) (a : ArgTree) (end finish : Token) (us : List Token) (s : Listing) →
+    let head = method_of text ty name list s in
+    let x = stmts_of text b head.3 in
+    let y = arg_of text a x.1 in
+    Under n xs ys y.1 → Told n us (member_text (MemberTree.method ty name opening list closing p perm start b word a end finish) us)
+    (method_marks xs ys (record { result = head.0; name = head.1; params = head.2; receiver = p; body = record { stmts = x.0 }; back = y.0; span = span_over word end }))
+method-told text ty name opening list closing p perm start b word a end finish us s u =
+    let t = type_of text ty s in
+    let i = ident text name t.1 in
+    let head = method_of text ty name list s in
+    let x = stmts_of text b head.3 in
+    let k = before (arg-grows text a x.1) u in
+    let l = before (stmts-grows text b head.3) k in
+    type-told ty (ident-told text name t.1 (before (params-grows text list i.1) l) (skip (params-told text list i.1 l
+    (skip (skip (skip (stmts-told text b head.3 k (skip (arg-told text a x.1 u (ended (skip nothing)))))))))))
+
+-- ---- members
+
+-- the lists of marks rise where these tokens are in order, and so are the tokens at their end; the names among them have numbers below this one
+record AreTold (n : ℕ) (vs us : List Token) (mss : List (List Mark)) : Type 0 where
+  rising : (from : ℕ) → AreInOrder from us → AreRising mss
+  behind : (from : ℕ) → AreInOrder from us → AreInOrder 0 vs
+  numbered : AllBelow n (flat_map mark_names mss)
+
+rising-append : (mss kss : List (List Mark)) → AreRising mss → AreRising kss → AreRising (mss ++ kss)
+rising-append [] kss h k = k
+rising-append (ms ∷ mss) kss h k = (h.0, rising-append mss kss h.1 k)
+
+no_methods : {n : ℕ} {us : List Token} → AreTold n us us []
+no_methods {us} = record { rising = λ from h. tt; behind = λ from h. order-from 0 from us (omega arith) h; numbered = tt }
+
+-- lists of marks one after the other
+join : {n : ℕ} {vs us ws : List Token} {mss kss : List (List Mark)} → AreTold n us ws mss → AreTold n vs us kss → AreTold n vs ws (mss ++ kss)
+join {n} {mss} {kss} q r = record {
+  rising = λ from h. rising-append mss kss (q.rising from h) (r.rising 0 (q.behind from h));
+  behind = λ from h. r.behind 0 (q.behind from h);
+  numbered = subst (AllBelow n) (sym (flat_map-append mark_names mss kss)) (below-both n (flat_map mark_names mss) (flat_map mark_names kss) q.numbered r.numbered);
+}
+
+-- the marks of one method
+one : {n : ℕ} {vs us : List Token} {ms : List Mark} → Told n vs us ms → AreTold n vs us (ms ∷ [])
+one {n} {ms} r = record {
+  rising = λ from h. (rising-from 0 from ms (omega arith) (r.rising from h), tt);
+  behind = r.behind;
+  numbered = subst (AllBelow n) (sym (append-nil (mark_names ms))) r.numbered;
+}
+
+-- tokens with no marks
+until : {n : ℕ} {vs us ws : List Token} {mss : List (List Mark)} → AreTold n us ws mss → Told n vs us [] → AreTold n vs ws mss
+until q r = record { rising = q.rising; behind = λ from h. r.behind 0 (q.behind from h); numbered = q.numbered }
+
+member-told : {n : ℕ} {xs : List Expr} {ys : List Stmt} {us ws : List Token} (text : List ℕ) (x : MemberTree) (fs : List FieldDecl) (ds : List Method) (s : Listing) →
+    Under n xs ys (member_of text x fs ds s).2 → AreTold n (member_text x us) ws (map (method_marks xs ys) ds) → AreTold n us ws (map (method_marks xs ys) (member_of text x fs ds s).1)
+member-told text (MemberTree.field_member ty name end) fs ds s u q = until q (type-told ty (skip (skip nothing)))
+member-told {n} {xs} {ys} {us} {ws} text (MemberTree.method ty name opening list closing p perm start b word a end finish) fs ds s u q =
+    let head = method_of text ty name list s in
+    let x = stmts_of text b head.3 in
+    let y = arg_of text a x.1 in
+    let made : Method = record { result = head.0; name = head.1; params = head.2; receiver = p; body = record { stmts = x.0 }; back = y.0; span = span_over word end } in
+    subst
+    (AreTold n us ws)
+    (sym (map-append (method_marks xs ys) ds (made ∷ [])))
+    (join q (one (method-told text ty name opening list closing p perm start b word a end finish us s u)))
+
+members-told : {n : ℕ} {xs : List Expr} {ys : List Stmt} (text : List ℕ) (a : Members) (s : Listing) (us : List Token) →
+    Under n xs ys (members_of text a s).2 → AreTold n us (members_text a us) (map (method_marks xs ys) (members_of text a s).1)
+members-told text Members.no_members s us u = no_methods
+members-told text (Members.more_members list x) s us u =
+    let r = members_of text list s in
+    member-told text x r.0 r.1 r.2 u (members-told text list s (member_text x us) (before (member-grows text x r.0 r.1 r.2) u))
+
+-- ---- programs
+
+-- the methods of one class more stand last
+methods-last : (f : Method → List Mark) (cs : List ClassDecl) (c : ClassDecl) → map f (flat_map (λ c. c.methods) cs) ++ map f c.methods ≡ map f (flat_map (λ c. c.methods) (cs ++ c ∷ []))
+methods-last f cs c =
+    let of : ClassDecl → List Method = λ c. c.methods in
+    sym (map-append f (flat_map of cs) c.methods)
+    ∙ ap (λ ds. map f (flat_map of cs ++ ds)) (sym (append-nil c.methods))
+    ∙ ap (map f) (sym (flat_map-append of cs (c ∷ [])))
+
+program-told : {n : ℕ} {xs : List Expr} {ys : List Stmt} (text : List ℕ) (a : Classes) (us : List Token) →
+    Under n xs ys (classes_of text a nothing_yet) → AreTold n us (program_text a us) (map (method_marks xs ys) (methods_of (classes_of text a nothing_yet)))
+program-told text Classes.no_classes us u = no_methods
+program-told {n} {xs} {ys} text (Classes.more_classes list word name opening members closing) us u =
+    let r = classes_of text list nothing_yet in
+    let x = ident text name r in
+    let m = members_of text members x.1 in
+    let c : ClassDecl = record { name = x.0; fields = m.0; methods = m.1 } in
+    let f = method_marks xs ys in
+    let inner = members_text members (closing ∷ us) in
+    let v : Under n xs ys m.2 = record { some = u.some; names = u.names; exprs = u.exprs; stmts = u.stmts } in
+    let w = before (then (ident-grows text name r) (members-grows text members x.1)) v in
+    let kept : m.2.classes ≡ r.classes = (members-keeps text members x.1).classes ∙ (ident-keeps text name r).classes in
+    let first : AreTold n inner (word ∷ name ∷ opening ∷ inner) [] = until no_methods (skip (skip (skip nothing))) in
+    let more : AreTold n us (word ∷ name ∷ opening ∷ inner) (map f m.1) = until (join first (members-told text members x.1 (closing ∷ us) v)) (skip nothing) in
+    subst
+    (AreTold n us (program_text list (word ∷ name ∷ opening ∷ inner)))
+    (methods-last f r.classes c ∙ ap (λ (cs : List ClassDecl). map f (flat_map (λ d. d.methods) (cs ++ c ∷ []))) (sym kept))
+    (join (program-told text list (word ∷ name ∷ opening ∷ inner) w) more)
+
+whole : (text : List ℕ) (tree : Classes) →
+    let p = meaning text tree in
+    AreTold (length p.names) [] (program_text tree []) (marks_of p)
+whole text tree =
+    let p = meaning text tree in
+    let g = classes-grows text tree nothing_yet in
+    program-told text tree []
+    (record { some = omega (arith, front-length nothing_yet.names p.names g.names); names = omega arith; exprs = front-refl p.exprs; stmts = front-refl p.stmts })
+
+-- the program that a tree means is in text order, where its tokens are
+pub meaning-rising : (text : List ℕ) (tokens : List Token) (tree : Classes) → AreInOrder 0 tokens → program_text tree [] ≡ tokens → AreRising (marks_of (meaning text tree))
+meaning-rising text tokens tree order spells = (whole text tree).rising 0 (subst (AreInOrder 0) (sym spells) order)
+
+-- each name that stands in its methods has a number among its names
+pub meaning-marked : (text : List ℕ) (tree : Classes) → AllBelow (length (meaning text tree).names) (flat_map mark_names (marks_of (meaning text tree)))
+meaning-marked text tree = (whole text tree).numbered
