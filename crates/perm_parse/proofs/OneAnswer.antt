@@ -13,6 +13,7 @@ use Rattle.std.proofs.Common.{◌≡◌, ℕ, ◌+◌, ◌<◌, ◌≤◌, ◌�
 use Rattle.std.specs.Prelude.{IfErr}
 use Rattle.std.proofs.lemmas.List.{length-take, take-append-drop, take-append-le}
 use Rattle.std.proofs.lemmas.Bool.{cases_order, le-leb, lt-leb}
+use Rattle.std.proofs.lemmas.Option.{same_Some}
 use Rattle.perm_tree.specs.Places.{Listing}
 use Rattle.perm_tree.specs.declared.errors.ParseError.{ParseError}
 use Rattle.perm_tree.specs.declared.errors.ParseError.TheVariants.{Unexpected, TooDeep, NoMemory}
@@ -20,25 +21,22 @@ use Rattle.perm_tree.specs.declared.tokens.Token.{Token}
 use Rattle.perm_parse.specs.Grammar.{Classes, program_text}
 use Rattle.perm_parse.specs.Levels.{program_levels}
 use Rattle.perm_parse.specs.States.{State, level_state}
-use Rattle.perm_parse.specs.Machine.{step, walk, noted}
+use Rattle.perm_parse.specs.Machine.{step, walk, note_level}
 use Rattle.perm_parse.specs.Meaning.{meaning}
-use Rattle.perm_parse.specs.Parses.{Parses, IsFront, IsFirstDead, IsTooDeepAt, IsUnexpected, IsRefused, HasOneAnswer, Shallow}
-use Rattle.perm_parse.specs.Answers.{Answer, parsed, unexpected, too_deep, went, read_from, start, read, IsAnswer}
+use Rattle.perm_parse.specs.Parses.{Parses, IsFront, IsFirstDead, IsTooDeepAt, IsUnexpected, IsRefused, HasOneAnswer, Shallow, deepest}
+use Rattle.perm_parse.specs.Answers.{Answer, parsed, unexpected, too_deep, answer_after, read_from, start, read, IsAnswer}
 use Rattle.perm_parse.specs.ReadingMembers.{Gives}
 use Rattle.perm_parse.proofs.OneAnswer.Exactness.{complete, exact}
 
 -- ---- what the levels of a walk say of the reading
 
-some-is : {A : Type 0} (x y : A) → Some x ≡ Some y → x ≡ y
-some-is x y e = cc
-
 -- a walk with no level past the deepest is read to its end
 shallow-run : (ts : List Token) (q r : State) (ls : List ℕ) (n : ℕ) → walk q ts ≡ (ls, Some r) → Shallow ls → read_from ts q n ≡ read_from [] r (n + length ts)
-shallow-run [] q r ls n e low = rw (some-is q r (ap (λ (w : List ℕ × Option State). w.1) e)) (ap (λ (m : ℕ). read_from [] r m) (omega arith))
+shallow-run [] q r ls n e low = rw (same_Some q r (ap (λ (w : List ℕ × Option State). w.1) e)) (ap (λ (m : ℕ). read_from [] r m) (omega arith))
 shallow-run (t ∷ ts) q r ls n e low = behind (step q t) ls e low (λ s ms f lo. shallow-run ts s r ms (n + 1) f lo)
   where
-    behind : (x : Option State) (ls : List ℕ) → noted x (λ s. walk s ts) ≡ (ls, Some r) → Shallow ls → ((s : State) (ms : List ℕ) → walk s ts ≡ (ms, Some r) → Shallow ms → read_from ts s (n + 1) ≡ read_from [] r (n + 1 + length ts)) →
-        went n x (λ s. read_from ts s (n + 1)) ≡ read_from [] r (n + length (t ∷ ts))
+    behind : (x : Option State) (ls : List ℕ) → note_level x (λ s. walk s ts) ≡ (ls, Some r) → Shallow ls → ((s : State) (ms : List ℕ) → walk s ts ≡ (ms, Some r) → Shallow ms → read_from ts s (n + 1) ≡ read_from [] r (n + 1 + length ts)) →
+        answer_after n x (λ s. read_from ts s (n + 1)) ≡ read_from [] r (n + length (t ∷ ts))
     behind None ls e low more = absurd (let f = ap (λ (w : List ℕ × Option State). w.1) e in cc)
     behind (Some s) [] e low more = absurd (let f = ap (λ (w : List ℕ × Option State). w.0) e in cc)
     behind (Some s) (l ∷ ls) e low more =
@@ -49,14 +47,14 @@ shallow-run (t ∷ ts) q r ls n e low = behind (step q t) ls e low (λ s ms f lo
         rw (le-leb (level_state s) 100 (omega (arith, low.0))) (more s ls (λ i. (under i, last i)) low.1 ∙ ap (λ (m : ℕ). read_from [] r m) (omega arith))
 
 -- a walk whose first level past the deepest is here is refused here, whatever comes behind
-deep-run : (ts more other : List Token) (q : State) (before : List ℕ) (level : ℕ) (behind : List ℕ) (n : ℕ) → (walk q (ts ++ more)).0 ≡ before ++ (level ∷ behind) → length before < length ts → Shallow before → 100 < level →
+deep-run : (ts more other : List Token) (q : State) (before : List ℕ) (level : ℕ) (behind : List ℕ) (n : ℕ) → (walk q (ts ++ more)).0 ≡ before ++ (level ∷ behind) → length before < length ts → Shallow before → deepest < level →
     read_from (ts ++ other) q n ≡ too_deep (n + length before)
 deep-run [] more other q before level behind n e lt low deep = absurd (omega arith)
 deep-run (t ∷ ts) more other q before level behind n e lt low deep = at (step q t) before e lt low (λ s ms f l lo. deep-run ts more other s ms level behind (n + 1) f l lo deep)
   where
-    at : (x : Option State) (before : List ℕ) → (noted x (λ s. walk s (ts ++ more))).0 ≡ before ++ (level ∷ behind) → length before < length (t ∷ ts) → Shallow before →
+    at : (x : Option State) (before : List ℕ) → (note_level x (λ s. walk s (ts ++ more))).0 ≡ before ++ (level ∷ behind) → length before < length (t ∷ ts) → Shallow before →
         ((s : State) (ms : List ℕ) → (walk s (ts ++ more)).0 ≡ ms ++ (level ∷ behind) → length ms < length ts → Shallow ms → read_from (ts ++ other) s (n + 1) ≡ too_deep (n + 1 + length ms)) →
-        went n x (λ s. read_from (ts ++ other) s (n + 1)) ≡ too_deep (n + length before)
+        answer_after n x (λ s. read_from (ts ++ other) s (n + 1)) ≡ too_deep (n + length before)
     at None [] e lt low go = absurd cc
     at None (b ∷ bs) e lt low go = absurd cc
     at (Some s) [] e lt low go =

@@ -22,9 +22,9 @@ use Rattle.std.proofs.Common.{◌≡◌, ℕ, List, [], ◌∷◌, ◌++◌, map
 use Rattle.std.specs.List.{flat_map}
 use Rattle.std.proofs.lemmas.Grind.{flat_map-append}
 use Rattle.perm_tree.specs.Places.{Listing}
-use Rattle.perm_tree.specs.Canonical.{joined}
-use Rattle.perm_tree.specs.CanonicalText as whole
-use Rattle.perm_tree.specs.CanonicalText.{class_text, canonical, Member}
+use Rattle.perm_tree.specs.Printer.Expressions.{parts_text}
+use Rattle.perm_tree.specs.Printer.Programs as whole
+use Rattle.perm_tree.specs.Printer.Programs.{class_text, canonical, Member}
 use Rattle.perm_tree.specs.declared.ast.ClassDecl.{ClassDecl}
 use Rattle.perm_tree.specs.declared.tokens.Token.{Token}
 use Rattle.perm_tree.specs.declared.tokens.TokenKind.TheVariants as kinds
@@ -37,11 +37,12 @@ use Rattle.perm_parse.specs.ReadsBack.{ReadsBack}
 use Rattle.perm_parse.proofs.RoundTrip.BareTrees.{bare_classes, bare_members}
 use Rattle.perm_parse.proofs.RoundTrip.CanonicalPieces.{mark, space, line, name_piece, members_pieces, program_pieces}
 use Rattle.perm_parse.proofs.Walks.ListGrowth.{Grows, stays, then, ident-grows, members-grows, classes-grows}
-use Rattle.perm_parse.proofs.Walks.UnchangedClasses.{ident-keeps, members-keeps}
+use Rattle.perm_parse.proofs.Walks.{ident-kept, members-kept}
+use Rattle.perm_parse.proofs.Walks.UnchangedClasses.{SameClasses, same-classes}
 use Rattle.perm_parse.proofs.RoundTrip.TextParts.{class-join}
 use Rattle.perm_parse.proofs.RoundTrip.WrittenExpressions.{HasThis, get-front, name-written}
 use Rattle.perm_parse.proofs.RoundTrip.WrittenMembers.{entries, members-written, members-sorted}
-use Rattle.perm_parse.proofs.RoundTrip.TokenSuffixes.{Ascending, program-trails, lexes-ascends}
+use Rattle.perm_parse.proofs.RoundTrip.TokenSuffixes.{IsAscending, program-trails, lexes-ascends}
 use Rattle.perm_lex.proofs.Refusals.{one_lexing}
 use Rattle.perm_parse.proofs.OneAnswer.{one-answer}
 use Rattle.perm_parse.proofs.RoundTrip.TreeRoundTrip.{written_text, read-back}
@@ -49,7 +50,7 @@ use Rattle.perm_parse.proofs.RoundTrip.TreeRoundTrip.{written_text, read-back}
 one-more : (f : ClassDecl → List ℕ) (xs : List ClassDecl) (c : ClassDecl) (r : List ℕ) → flat_map f xs ++ (f c ++ r) ≡ flat_map f (xs ++ c ∷ []) ++ r
 one-more f xs c r = rw flat_map-append (simp (append_assoc, append-nil))
 
-program-written : (text : List ℕ) (a : Classes) (p : Listing) (us : List Token) (ps : List Piece) → HasThis p → IsProgram a → Ascending (program_text a us) → Grows (classes_of text a nothing_yet) p →
+program-written : (text : List ℕ) (a : Classes) (p : Listing) (us : List Token) (ps : List Piece) → HasThis p → IsProgram a → IsAscending (program_text a us) → Grows (classes_of text a nothing_yet) p →
     pieces_text (program_pieces text (bare_classes a) ps) ≡ flat_map (class_text p) (classes_of text a nothing_yet).classes ++ pieces_text ps
 program-written text Classes.no_classes p us ps this is asc g = refl
 program-written text (Classes.more_classes list word name opening members closing) p us ps this is asc g =
@@ -63,14 +64,14 @@ program-written text (Classes.more_classes list word name opening members closin
     let A = map (λ (q : Member). q.text) (entries text p members x.1) in
     let last = mark kinds.CloseBrace ∷ line ∷ ps in
     let inner = members_pieces text (bare_members members) last in
-    let kept : m.2.classes ≡ r.classes = (members-keeps text members x.1).classes ∙ (ident-keeps text name r).classes in
+    let kept : m.2.classes ≡ r.classes = members-kept SameClasses same-classes text members x.1 ∙ ident-kept SameClasses same-classes text name r in
     let tail = (program-trails list (word ∷ name ∷ opening ∷ members_text members (closing ∷ us))).ascending asc in
     let order = members-sorted text p members x.1 (closing ∷ us) tail.1.1.1 in
-    program-written text list p (word ∷ name ∷ opening ∷ members_text members (closing ∷ us)) (mark kinds.Class ∷ space ∷ name_piece text name ∷ space ∷ mark kinds.OpenBrace ∷ line ∷ inner) this is.0 asc (then (ident-grows text name r) gx)
+    program-written text list p (word ∷ name ∷ opening ∷ members_text members (closing ∷ us)) (mark kinds.Class ∷ space ∷ name_piece text name ∷ space ∷ mark kinds.OpenBrace ∷ line ∷ inner) this is.list asc (then (ident-grows text name r) gx)
     ∙ ap (λ z. flat_map (class_text p) r.classes ++ (codes "class " ++ z)) (name-written text name r p (space ∷ mark kinds.OpenBrace ∷ line ∷ inner) gx)
-    ∙ ap (λ z. flat_map (class_text p) r.classes ++ (codes "class " ++ (n ++ (codes " {\n" ++ z)))) (members-written text members x.1 p last this is.4 gm)
+    ∙ ap (λ z. flat_map (class_text p) r.classes ++ (codes "class " ++ (n ++ (codes " {\n" ++ z)))) (members-written text members x.1 p last this is.members gm)
     ∙ ap (λ z. flat_map (class_text p) r.classes ++ z) (class-join (codes "class ") n (codes " {\n") A (codes "}\n") (pieces_text ps))
-    ∙ ap (λ (z : List Member). flat_map (class_text p) r.classes ++ (joined (codes "class " ∷ n ∷ codes " {\n" ∷ (map (λ (q : Member). q.text) z ++ codes "}\n" ∷ [])) ++ pieces_text ps)) (sym order)
+    ∙ ap (λ (z : List Member). flat_map (class_text p) r.classes ++ (parts_text (codes "class " ∷ n ∷ codes " {\n" ∷ (map (λ (q : Member). q.text) z ++ codes "}\n" ∷ [])) ++ pieces_text ps)) (sym order)
     ∙ one-more (class_text p) r.classes c (pieces_text ps)
     ∙ ap (λ z. flat_map (class_text p) (z ++ c ∷ []) ++ pieces_text ps) (sym kept)
 
@@ -82,7 +83,7 @@ pub written-canonical : (text : List ℕ) (tokens : List Token) (p : Listing) �
 written-canonical text tokens p l h =
     let same : classes_of text h.tree nothing_yet ≡ p = h.means in
     let g : Grows (classes_of text h.tree nothing_yet) p = subst (Grows (classes_of text h.tree nothing_yet)) same (stays (classes_of text h.tree nothing_yet)) in
-    let asc : Ascending (program_text h.tree []) = subst Ascending (sym h.spells) (lexes-ascends text tokens l) in
+    let asc : IsAscending (program_text h.tree []) = subst IsAscending (sym h.spells) (lexes-ascends text tokens l) in
     program-written text h.tree p [] [] (this-first p (then (classes-grows text h.tree nothing_yet) g)) h.is_tree asc g
     ∙ append-nil (flat_map (class_text p) (classes_of text h.tree nothing_yet).classes)
     ∙ ap (λ (q : Listing). flat_map (class_text p) q.classes) same

@@ -13,14 +13,14 @@ use Rattle.perm_tree.specs.declared.tokens.Token.{Token}
 use Rattle.perm_tree.specs.declared.tokens.TokenKind.{TokenKind}
 use Rattle.perm_tree.specs.declared.tokens.TokenKind.TheVariants as kinds
 use Rattle.perm_parse.specs.Grammar.{TypeTree, ExprTree, ArgTree, ArgList, Args, RecvTree, CallTree, TargetTree, RhsTree, BlockTree, StmtTree, Stmts, ParamList, Params, MemberTree, Members, Classes}
-use Rattle.perm_parse.specs.Meaning.{named, ident, var_as, var, push_expr, push_stmt, push_mention, type_of, expr_of, arg_of, arg_list_of, args_of, recv_of, call_of, target_of, rhs_of, block_of, stmt_of, stmts_of, param_list_of, params_of, member_of, members_of, classes_of}
+use Rattle.perm_parse.specs.Meaning.{number_of, ident, var_as, var, push_expr, push_stmt, push_mention, type_of, expr_of, arg_of, arg_list_of, args_of, recv_of, call_of, target_of, rhs_of, block_of, stmt_of, stmts_of, param_list_of, params_of, member_of, members_of, classes_of}
 
 -- A relation of a program to a later one that holds over no move, over two moves where it holds over each, and over a name that
 -- is given its number, an expression, a statement or a mention more.
 pub record IsKept (R : Listing → Listing → Type 0) : Type 0 where
   pub stays : (s : Listing) → R s s
   pub then : {s t u : Listing} → R s t → R t u → R s u
-  pub name : (text : List ℕ) (t : Token) (s : Listing) → R s (named text t s).1
+  pub name : (text : List ℕ) (t : Token) (s : Listing) → R s (number_of text t s).1
   pub expr : (e : Expr) (s : Listing) → R s (push_expr e s).1
   pub stmt : (x : Stmt) (s : Listing) → R s (push_stmt x s).1
   pub mention : (i : Ident) (s : Listing) → R s (push_mention i s)

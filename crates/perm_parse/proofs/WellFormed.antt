@@ -10,11 +10,12 @@ use Rattle.perm_tree.specs.Places.{Listing}
 use Rattle.perm_tree.specs.TextOrder.{mark_names, marks_of}
 use Rattle.perm_tree.specs.WellFormed.{IsOrderly}
 use Rattle.perm_tree.specs.declared.tokens.Token.{Token}
+use Rattle.perm_tree.proofs.Pushes.{all_append}
 use Rattle.perm_parse.specs.Grammar.{Classes, program_text}
 use Rattle.perm_parse.specs.Meaning.{meaning}
 use Rattle.perm_parse.specs.Parses.{Parses}
 use Rattle.perm_parse.specs.ReadingMembers.{Gives}
-use Rattle.perm_parse.proofs.WellFormed.DeclaredNames.{below-both, meaning-classes, meaning-fields}
+use Rattle.perm_parse.proofs.WellFormed.DeclaredNames.{meaning-classes, meaning-fields}
 use Rattle.perm_parse.proofs.WellFormed.ExpressionMarks.{AreInOrder, in-order}
 use Rattle.perm_parse.proofs.WellFormed.ProgramMarks.{meaning-marked, meaning-rising}
 use Rattle.perm_parse.proofs.WellFormed.ClassMentions.{meaning-mentioned}
@@ -29,7 +30,7 @@ meaning-orderly text tokens tree order spells =
     let bodies = flat_map mark_names (marks_of p) in
     record {
       words = meaning-words text tree;
-      named = below-both (length p.names) (map (λ c. c.name.name) p.classes) (fields ++ bodies) (meaning-classes text tree) (below-both (length p.names) fields bodies (meaning-fields text tree) (meaning-marked text tree));
+      named = all_append (length p.names) (map (λ c. c.name.name) p.classes) (fields ++ bodies) (meaning-classes text tree) (all_append (length p.names) fields bodies (meaning-fields text tree) (meaning-marked text tree));
       mentioned = meaning-mentioned text tree;
       ordered = meaning-rising text tokens tree order spells;
     }

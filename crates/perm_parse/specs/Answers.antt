@@ -14,19 +14,19 @@ pub data Answer : Type 0 where
   too_deep : ℕ → Answer
 
 -- at the end of the tokens
-abbrev pub ended : State → ℕ → Answer
-ended (State.between_classes list) place = parsed list
-ended _ place = unexpected place
+abbrev pub answer_at_end : State → ℕ → Answer
+answer_at_end (State.between_classes list) place = parsed list
+answer_at_end _ place = unexpected place
 
 -- behind the token at a place
-abbrev pub went : ℕ → Option State → (State → Answer) → Answer
-went place None goes_on = unexpected place
-went place (Some q) goes_on = if nat_le (level_state q) deepest then goes_on q else too_deep place
+abbrev pub answer_after : ℕ → Option State → (State → Answer) → Answer
+answer_after place None goes_on = unexpected place
+answer_after place (Some q) goes_on = if nat_le (level_state q) deepest then goes_on q else too_deep place
 
 -- what tokens give from a state
 abbrev pub read_from : List Token → State → ℕ → Answer
-read_from [] q place = ended q place
-read_from (t ∷ ts) q place = went place (step q t) (λ r. read_from ts r (place + 1))
+read_from [] q place = answer_at_end q place
+read_from (t ∷ ts) q place = answer_after place (step q t) (λ r. read_from ts r (place + 1))
 
 -- the state before the first token
 abbrev pub start : State

@@ -9,7 +9,7 @@ use Rattle.perm_tree.specs.declared.ast.BinaryOp.TheVariants as op
 use Rattle.perm_tree.specs.declared.tokens.Token.{Token}
 use Rattle.perm_tree.specs.declared.tokens.TokenKind.{TokenKind}
 use Rattle.perm_tree.specs.declared.tokens.TokenKind.TheVariants as kind
-pub use Rattle.perm_tree.specs.Canonical.{level}
+pub use Rattle.perm_tree.specs.Printer.Expressions.{level}
 
 -- a token of this kind
 abbrev pub Is : TokenKind → Token → Type 0
@@ -42,12 +42,19 @@ type_text (bool_type t) rest = t ∷ rest
 type_text (object_type p perm name) rest = perm ∷ name ∷ rest
 type_text (array_type p perm word opening closing) rest = perm ∷ word ∷ opening ∷ closing ∷ rest
 
+-- Perm "long" "[" "]"
+pub record IsArrayType (p : Perm) (r w o c : Token) : Type 0 where
+  pub perm : Is (perm_word p) r
+  pub word : Is kind.Long w
+  pub opening : Is kind.OpenBracket o
+  pub closing : Is kind.CloseBracket c
+
 -- a type is as the grammar has it
 abbrev pub IsType : TypeTree → Type 0
 IsType (long_type t) = Is kind.Long t
 IsType (bool_type t) = Is kind.Bool t
 IsType (object_type p perm name) = Is (perm_word p) perm × Is kind.Name name
-IsType (array_type p perm word opening closing) = Is (perm_word p) perm × Is kind.Long word × Is kind.OpenBracket opening × Is kind.CloseBracket closing
+IsType (array_type p perm word opening closing) = IsArrayType p perm word opening closing
 
 -- ---- expressions
 
@@ -99,6 +106,14 @@ expr_text (parens opening e closing) rest = opening ∷ expr_text e (closing ∷
 expr_text (unary o t e) rest = t ∷ expr_text e rest
 expr_text (binary o a t b) rest = expr_text a (t ∷ expr_text b rest)
 
+-- two operands that are expressions (A and B), with an operator that binds looser than the right one and not tighter than the left one
+pub record IsBinary (A B : Type 0) (o : BinaryOp) (a : ExprTree) (t : Token) (b : ExprTree) : Type 0 where
+  pub left : A
+  pub operator : Is (sign o) t
+  pub right : B
+  pub left_level : looseness a ≤ level o
+  pub right_level : looseness b < level o
+
 -- each binary operator is left associative, and a unary one binds tighter
 abbrev pub IsExpr : ExprTree → Type 0
 IsExpr (number t) = Is kind.Number t
@@ -108,7 +123,7 @@ IsExpr (null_word t) = Is kind.Null t
 IsExpr (variable t) = IsVar t
 IsExpr (parens opening e closing) = Is kind.OpenParen opening × IsExpr e × Is kind.CloseParen closing
 IsExpr (unary o t e) = Is (unary_sign o) t × IsExpr e × (looseness e ≡ 0)
-IsExpr (binary o a t b) = IsExpr a × Is (sign o) t × IsExpr b × (looseness a ≤ level o) × (looseness b < level o)
+IsExpr (binary o a t b) = IsBinary (IsExpr a) (IsExpr b) o a t b
 
 -- ---- arguments and calls
 
@@ -167,10 +182,17 @@ abbrev pub recv_text : RecvTree → List Token → List Token
 recv_text (lent name) rest = name ∷ rest
 recv_text (given opening word name closing) rest = opening ∷ word ∷ name ∷ closing ∷ rest
 
+-- "(" "consume" Var ")"
+pub record IsConsumedReceiver (o w n c : Token) : Type 0 where
+  pub opening : Is kind.OpenParen o
+  pub word : Is kind.Consume w
+  pub name : IsVar n
+  pub closing : Is kind.CloseParen c
+
 -- a receiver is as the grammar has it
 abbrev pub IsRecv : RecvTree → Type 0
 IsRecv (lent name) = IsVar name
-IsRecv (given opening word name closing) = Is kind.OpenParen opening × Is kind.Consume word × IsVar name × Is kind.CloseParen closing
+IsRecv (given opening word name closing) = IsConsumedReceiver opening word name closing
 
 -- Call = Recv "." Name "(" [Arg ("," Arg)*] ")"
 pub data CallTree : Type 0 where
@@ -180,9 +202,18 @@ pub data CallTree : Type 0 where
 abbrev pub call_text : CallTree → List Token → List Token
 call_text (call recv dot name opening list closing) rest = recv_text recv (dot ∷ name ∷ opening ∷ args_text list (closing ∷ rest))
 
+-- Recv "." Name "(" [Arg ("," Arg)*] ")"
+pub record IsWholeCall (r : RecvTree) (d n o : Token) (a : Args) (c : Token) : Type 0 where
+  pub receiver : IsRecv r
+  pub dot : Is kind.Dot d
+  pub name : Is kind.Name n
+  pub opening : Is kind.OpenParen o
+  pub args : AreArgs a
+  pub closing : Is kind.CloseParen c
+
 -- a call is as the grammar has it
 abbrev pub IsCall : CallTree → Type 0
-IsCall (call recv dot name opening list closing) = IsRecv recv × Is kind.Dot dot × Is kind.Name name × Is kind.OpenParen opening × AreArgs list × Is kind.CloseParen closing
+IsCall (call recv dot name opening list closing) = IsWholeCall recv dot name opening list closing
 
 -- ---- statements
 
@@ -271,18 +302,100 @@ abbrev mutual
   stmts_text no_stmts rest = rest
   stmts_text (more_stmts b x) rest = stmts_text b (stmt_text x rest)
 
+-- "consume" Var "." Name
+pub record IsTakenField (w n d m : Token) : Type 0 where
+  pub word : Is kind.Consume w
+  pub name : IsVar n
+  pub dot : Is kind.Dot d
+  pub member : Is kind.Name m
+
+-- Var "[" Expr "]"
+pub record IsItem (n o : Token) (e : ExprTree) (c : Token) : Type 0 where
+  pub name : IsVar n
+  pub opening : Is kind.OpenBracket o
+  pub index : IsExpr e
+  pub closing : Is kind.CloseBracket c
+
+-- "new" Name "(" ")"
+pub record IsNewObject (w n o c : Token) : Type 0 where
+  pub word : Is kind.New w
+  pub name : Is kind.Name n
+  pub opening : Is kind.OpenParen o
+  pub closing : Is kind.CloseParen c
+
+-- "new" "long" "[" Expr "]"
+pub record IsNewArray (w l o : Token) (e : ExprTree) (c : Token) : Type 0 where
+  pub word : Is kind.New w
+  pub long : Is kind.Long l
+  pub opening : Is kind.OpenBracket o
+  pub size : IsExpr e
+  pub closing : Is kind.CloseBracket c
+
+-- "recover" "{" Stmt* "give" Name ";" "}", with statements (B)
+pub record IsRecover (B : Type 0) (w o g n s c : Token) : Type 0 where
+  pub word : Is kind.Recover w
+  pub opening : Is kind.OpenBrace o
+  pub body : B
+  pub give : Is kind.Give g
+  pub name : Is kind.Name n
+  pub end : Is kind.Semicolon s
+  pub closing : Is kind.CloseBrace c
+
+-- [Type] Name "=" Rhs ";", with a right side (R)
+pub record IsAssignment (R : Type 0) (t : TargetTree) (q s : Token) : Type 0 where
+  pub target : IsTarget t
+  pub equals : Is kind.Assign q
+  pub right : R
+  pub end : Is kind.Semicolon s
+
+-- Var "." Name "=" Arg ";"
+pub record IsFieldWrite (n d m q : Token) (a : ArgTree) (s : Token) : Type 0 where
+  pub name : IsVar n
+  pub dot : Is kind.Dot d
+  pub member : Is kind.Name m
+  pub equals : Is kind.Assign q
+  pub value : IsArg a
+  pub end : Is kind.Semicolon s
+
+-- Var "[" Expr "]" "=" Expr ";"
+pub record IsItemWrite (n o : Token) (i : ExprTree) (c q : Token) (e : ExprTree) (s : Token) : Type 0 where
+  pub name : IsVar n
+  pub opening : Is kind.OpenBracket o
+  pub index : IsExpr i
+  pub closing : Is kind.CloseBracket c
+  pub equals : Is kind.Assign q
+  pub value : IsExpr e
+  pub end : Is kind.Semicolon s
+
+-- "if" or "while" with "(" Expr ")" Block, with a block (B)
+pub record IsTestedBlock (k : TokenKind) (B : Type 0) (w o : Token) (e : ExprTree) (c : Token) : Type 0 where
+  pub word : Is k w
+  pub opening : Is kind.OpenParen o
+  pub test : IsExpr e
+  pub closing : Is kind.CloseParen c
+  pub block : B
+
+-- "if" "(" Expr ")" Block "else" Block, with two blocks (A and B)
+pub record IsIfElse (A B : Type 0) (w o : Token) (e : ExprTree) (c l : Token) : Type 0 where
+  pub word : Is kind.If w
+  pub opening : Is kind.OpenParen o
+  pub test : IsExpr e
+  pub closing : Is kind.CloseParen c
+  pub first : A
+  pub otherwise : Is kind.Else l
+  pub second : B
+
 abbrev mutual
   -- a right side is as the grammar has it
   pub IsRhs : RhsTree → Type 0
   IsRhs (value a) = IsArg a
   IsRhs (field name dot member) = IsVar name × Is kind.Dot dot × Is kind.Name member
-  IsRhs (take_field word name dot member) = Is kind.Consume word × IsVar name × Is kind.Dot dot × Is kind.Name member
-  IsRhs (item name opening e closing) = IsVar name × Is kind.OpenBracket opening × IsExpr e × Is kind.CloseBracket closing
-  IsRhs (new_object word name opening closing) = Is kind.New word × Is kind.Name name × Is kind.OpenParen opening × Is kind.CloseParen closing
-  IsRhs (new_array word long opening e closing) = Is kind.New word × Is kind.Long long × Is kind.OpenBracket opening × IsExpr e × Is kind.CloseBracket closing
+  IsRhs (take_field word name dot member) = IsTakenField word name dot member
+  IsRhs (item name opening e closing) = IsItem name opening e closing
+  IsRhs (new_object word name opening closing) = IsNewObject word name opening closing
+  IsRhs (new_array word long opening e closing) = IsNewArray word long opening e closing
   IsRhs (called c) = IsCall c
-  IsRhs (recover word opening b give name end closing) =
-      Is kind.Recover word × Is kind.OpenBrace opening × AreStmts b × Is kind.Give give × Is kind.Name name × Is kind.Semicolon end × Is kind.CloseBrace closing
+  IsRhs (recover word opening b give name end closing) = IsRecover (AreStmts b) word opening give name end closing
 
   -- a block is as the grammar has it
   pub IsBlock : BlockTree → Type 0
@@ -291,16 +404,14 @@ abbrev mutual
   -- a statement is as the grammar has it
   pub IsStmt : StmtTree → Type 0
   IsStmt (declare ty name end) = IsType ty × Is kind.Name name × Is kind.Semicolon end
-  IsStmt (assign target equals r end) = IsTarget target × Is kind.Assign equals × IsRhs r × Is kind.Semicolon end
-  IsStmt (set_field name dot member equals a end) = IsVar name × Is kind.Dot dot × Is kind.Name member × Is kind.Assign equals × IsArg a × Is kind.Semicolon end
-  IsStmt (set_item name opening i closing equals e end) =
-      IsVar name × Is kind.OpenBracket opening × IsExpr i × Is kind.CloseBracket closing × Is kind.Assign equals × IsExpr e × Is kind.Semicolon end
+  IsStmt (assign target equals r end) = IsAssignment (IsRhs r) target equals end
+  IsStmt (set_field name dot member equals a end) = IsFieldWrite name dot member equals a end
+  IsStmt (set_item name opening i closing equals e end) = IsItemWrite name opening i closing equals e end
   IsStmt (run_call c end) = IsCall c × Is kind.Semicolon end
   IsStmt (print word e end) = Is kind.Print word × IsExpr e × Is kind.Semicolon end
-  IsStmt (if_then word opening e closing a) = Is kind.If word × Is kind.OpenParen opening × IsExpr e × Is kind.CloseParen closing × IsBlock a
-  IsStmt (if_else word opening e closing a otherwise b) =
-      Is kind.If word × Is kind.OpenParen opening × IsExpr e × Is kind.CloseParen closing × IsBlock a × Is kind.Else otherwise × IsBlock b
-  IsStmt (repeat word opening e closing a) = Is kind.While word × Is kind.OpenParen opening × IsExpr e × Is kind.CloseParen closing × IsBlock a
+  IsStmt (if_then word opening e closing a) = IsTestedBlock kind.If (IsBlock a) word opening e closing
+  IsStmt (if_else word opening e closing a otherwise b) = IsIfElse (IsBlock a) (IsBlock b) word opening e closing otherwise
+  IsStmt (repeat word opening e closing a) = IsTestedBlock kind.While (IsBlock a) word opening e closing
   IsStmt (par word a b) = Is kind.Par word × IsBlock a × IsBlock b
 
   -- the statements of a block are as the grammar has it
@@ -320,10 +431,17 @@ abbrev pub param_list_text : ParamList → List Token → List Token
 param_list_text (one_param ty name) rest = type_text ty (name ∷ rest)
 param_list_text (more_params list comma ty name) rest = param_list_text list (comma ∷ type_text ty (name ∷ rest))
 
+-- one parameter more, behind parameters (P)
+pub record IsOneParamMore (P : Type 0) (m : Token) (t : TypeTree) (n : Token) : Type 0 where
+  pub list : P
+  pub comma : Is kind.Comma m
+  pub ty : IsType t
+  pub name : Is kind.Name n
+
 -- parameters with commas between them are as the grammar has it
 abbrev pub IsParamList : ParamList → Type 0
 IsParamList (one_param ty name) = IsType ty × Is kind.Name name
-IsParamList (more_params list comma ty name) = IsParamList list × Is kind.Comma comma × IsType ty × Is kind.Name name
+IsParamList (more_params list comma ty name) = IsOneParamMore (IsParamList list) comma ty name
 
 -- [Param ("," Param)*]
 pub data Params : Type 0 where
@@ -351,12 +469,25 @@ member_text (field_member ty name end) rest = type_text ty (name ∷ end ∷ res
 member_text (method ty name opening list closing p perm start b word a end finish) rest =
     type_text ty (name ∷ opening ∷ params_text list (closing ∷ perm ∷ start ∷ stmts_text b (word ∷ arg_text a (end ∷ finish ∷ rest))))
 
+-- Type Name "(" [Param ("," Param)*] ")" Perm "{" Stmt* "return" Arg ";" "}"
+pub record IsMethod (t : TypeTree) (n o : Token) (l : Params) (c : Token) (p : Perm) (r b : Token) (x : Stmts) (w : Token) (a : ArgTree) (s f : Token) : Type 0 where
+  pub ty : IsType t
+  pub name : Is kind.Name n
+  pub opening : Is kind.OpenParen o
+  pub params : AreParams l
+  pub closing : Is kind.CloseParen c
+  pub perm : Is (perm_word p) r
+  pub start : Is kind.OpenBrace b
+  pub body : AreStmts x
+  pub word : Is kind.Return w
+  pub back : IsArg a
+  pub end : Is kind.Semicolon s
+  pub finish : Is kind.CloseBrace f
+
 -- a member is as the grammar has it
 abbrev pub IsMember : MemberTree → Type 0
 IsMember (field_member ty name end) = IsType ty × Is kind.Name name × Is kind.Semicolon end
-IsMember (method ty name opening list closing p perm start b word a end finish) =
-    IsType ty × Is kind.Name name × Is kind.OpenParen opening × AreParams list × Is kind.CloseParen closing × Is (perm_word p) perm
-    × Is kind.OpenBrace start × AreStmts b × Is kind.Return word × IsArg a × Is kind.Semicolon end × Is kind.CloseBrace finish
+IsMember (method ty name opening list closing p perm start b word a end finish) = IsMethod ty name opening list closing p perm start b word a end finish
 
 -- Member*: members, and one more at the end
 pub data Members : Type 0 where
@@ -383,8 +514,16 @@ abbrev pub program_text : Classes → List Token → List Token
 program_text no_classes rest = rest
 program_text (more_classes list word name opening members closing) rest = program_text list (word ∷ name ∷ opening ∷ members_text members (closing ∷ rest))
 
+-- one class more, behind classes (C)
+pub record IsOneClassMore (C : Type 0) (w n o : Token) (m : Members) (c : Token) : Type 0 where
+  pub list : C
+  pub word : Is kind.Class w
+  pub name : Is kind.Name n
+  pub opening : Is kind.OpenBrace o
+  pub members : AreMembers m
+  pub closing : Is kind.CloseBrace c
+
 -- a program is as the grammar has it
 abbrev pub IsProgram : Classes → Type 0
 IsProgram no_classes = Unit {0}
-IsProgram (more_classes list word name opening members closing) =
-    IsProgram list × Is kind.Class word × Is kind.Name name × Is kind.OpenBrace opening × AreMembers members × Is kind.CloseBrace closing
+IsProgram (more_classes list word name opening members closing) = IsOneClassMore (IsProgram list) word name opening members closing

@@ -27,9 +27,9 @@ suits (exactly k) other = sameb the_type k other
 suits a_variable other = is_variable other
 
 -- the state behind the only token that may come
-abbrev pub taken : Bool → State → Option State
-taken true q = Some q
-taken false q = None
+abbrev pub state_if : Bool → State → Option State
+state_if true q = Some q
+state_if false q = None
 
 -- the state behind a whole statement
 abbrev pub add : Open → StmtTree → State
@@ -42,12 +42,12 @@ enter (at u b) lead =
     (λ opening. listing (at (inside u b lead opening) Stmts.no_stmts))
 
 -- the state behind a whole assignment
-abbrev pub assigned : Assigning → RhsTree → Token → State
-assigned (assigning o target equals) r end = add o (StmtTree.assign target equals r end)
+abbrev pub after_value : Assigning → RhsTree → Token → State
+after_value (assigning o target equals) r end = add o (StmtTree.assign target equals r end)
 
 -- a right side that is complete, up to the semicolon
 abbrev pub ends_value : Assigning → RhsTree → (List Token → List Token) → State
-ends_value a r r_text = expects (λ rest. assigning_text a (r_text rest)) (level_assigning a) (exactly kind.Semicolon) (λ end. assigned a r end)
+ends_value a r r_text = expects (λ rest. assigning_text a (r_text rest)) (level_assigning a) (exactly kind.Semicolon) (λ end. after_value a r end)
 
 -- the operators on top that bind at least as tight as level l take the operand
 abbrev pub reduce : ℕ → ExprTree → List Pending → ExprTree × List Pending
@@ -83,15 +83,15 @@ push_param no_param_yet ty name = ParamList.one_param ty name
 push_param (behind_param list comma) ty name = ParamList.more_params list comma ty name
 
 -- the state behind a whole call
-abbrev pub call_ended : CallFor → CallTree → Token → State
-call_ended (to_stand o) c end = add o (StmtTree.run_call c end)
-call_ended (to_assign a) c end = assigned a (RhsTree.called c) end
+abbrev pub after_call : CallFor → CallTree → Token → State
+after_call (to_stand o) c end = add o (StmtTree.run_call c end)
+after_call (to_assign a) c end = after_value a (RhsTree.called c) end
 
 -- behind the parenthesis of a call
 abbrev pub close_call : CallPart → Args → Token → State
 close_call (call_part k recv dot name opening) list closing =
     expects (λ rest. call_for_text k (recv_text recv (dot ∷ name ∷ opening ∷ args_text list (closing ∷ rest)))) (level_call_for k) (exactly kind.Semicolon)
-    (λ end. call_ended k (CallTree.call recv dot name opening list closing) end)
+    (λ end. after_call k (CallTree.call recv dot name opening list closing) end)
 
 -- behind the member of a receiver
 abbrev pub opens_args : CallFor → RecvTree → Token → Token → State
@@ -116,7 +116,7 @@ end_method (body_part (method_part (class_part list word name opening members) t
 abbrev pub finish_arg : ArgFor → ArgTree → Token → TokenKind → Option State
 finish_arg (to_set o name dot member equals) a t kind.Semicolon = Some (add o (StmtTree.set_field name dot member equals a t))
 finish_arg (to_set o name dot member equals) a t _ = None
-finish_arg (to_value g) a t kind.Semicolon = Some (assigned g (RhsTree.value a) t)
+finish_arg (to_value g) a t kind.Semicolon = Some (after_value g (RhsTree.value a) t)
 finish_arg (to_value g) a t _ = None
 finish_arg (to_pass c list) a t kind.Comma = Some (arg_due (to_pass c (behind_arg (push_arg list a) t)))
 finish_arg (to_pass c list) a t kind.CloseParen = Some (close_call c (Args.args (push_arg list a)) t)
@@ -175,19 +175,19 @@ step_args c t kind.CloseParen = Some (close_call c Args.no_args t)
 step_args c t other = step_arg (to_pass c no_arg_yet) t other
 
 -- the state behind a type and its name
-abbrev pub type_named : TypeFor → TypeTree → Token → State
-type_named (to_member c) ty name = member_named c ty name
-type_named (to_param m list) ty name = param_named m (push_param list ty name)
-type_named (to_local o) ty name = local_named o ty name
+abbrev pub after_named_type : TypeFor → TypeTree → Token → State
+after_named_type (to_member c) ty name = member_named c ty name
+after_named_type (to_param m list) ty name = param_named m (push_param list ty name)
+after_named_type (to_local o) ty name = local_named o ty name
 
 -- behind a whole type comes a name
-abbrev pub typed : TypeFor → TypeTree → State
-typed k ty = expects (λ rest. type_for_text k (type_text ty rest)) (level_type_for k) (exactly kind.Name) (λ name. type_named k ty name)
+abbrev pub after_type : TypeFor → TypeTree → State
+after_type k ty = expects (λ rest. type_for_text k (type_text ty rest)) (level_type_for k) (exactly kind.Name) (λ name. after_named_type k ty name)
 
 -- the state behind a token where a type is due, if the token isn't dead
 abbrev pub step_type : TypeFor → Token → TokenKind → Option State
-step_type k t kind.Long = Some (typed k (TypeTree.long_type t))
-step_type k t kind.Bool = Some (typed k (TypeTree.bool_type t))
+step_type k t kind.Long = Some (after_type k (TypeTree.long_type t))
+step_type k t kind.Bool = Some (after_type k (TypeTree.bool_type t))
 step_type k t kind.Isolated = Some (perm_seen k perm.Isolated t)
 step_type k t kind.Immutable = Some (perm_seen k perm.Immutable t)
 step_type k t kind.Readable = Some (perm_seen k perm.Readable t)
@@ -196,11 +196,11 @@ step_type k t _ = None
 
 -- the state behind a token where the word of a permission stands, if the token isn't dead
 abbrev pub step_perm_seen : TypeFor → Perm → Token → Token → TokenKind → Option State
-step_perm_seen k p word t kind.Name = Some (typed k (TypeTree.object_type p word t))
+step_perm_seen k p word t kind.Name = Some (after_type k (TypeTree.object_type p word t))
 step_perm_seen k p word t kind.Long =
     Some (expects (λ rest. type_for_text k (word ∷ t ∷ rest)) (level_type_for k) (exactly kind.OpenBracket)
     (λ opening. expects (λ rest. type_for_text k (word ∷ t ∷ opening ∷ rest)) (level_type_for k + 1) (exactly kind.CloseBracket)
-    (λ closing. typed k (TypeTree.array_type p word t opening closing))))
+    (λ closing. after_type k (TypeTree.array_type p word t opening closing))))
 step_perm_seen k p word t _ = None
 
 -- the state behind a token where classes stand, if the token isn't dead
@@ -254,18 +254,18 @@ step_perm m list closing t kind.Writable = Some (opens_body m list closing perm.
 step_perm m list closing t _ = None
 
 -- a brace that closes a block
-abbrev pub closed : Outer → Stmts → Lead → BlockTree → Option State
-closed u b (then_lead word opening e closing) a = Some (after_then (at u b) word opening e closing a)
-closed u b (else_lead word opening e closing a otherwise) c = Some (listing (at u (Stmts.more_stmts b (StmtTree.if_else word opening e closing a otherwise c))))
-closed u b (while_lead word opening e closing) a = Some (listing (at u (Stmts.more_stmts b (StmtTree.repeat word opening e closing a))))
-closed u b (left_lead word) a = Some (enter (at u b) (right_lead word a))
-closed u b (right_lead word a) c = Some (listing (at u (Stmts.more_stmts b (StmtTree.par word a c))))
-closed u b (recover_lead target equals word) a = None
+abbrev pub after_block : Outer → Stmts → Lead → BlockTree → Option State
+after_block u b (then_lead word opening e closing) a = Some (after_then (at u b) word opening e closing a)
+after_block u b (else_lead word opening e closing a otherwise) c = Some (listing (at u (Stmts.more_stmts b (StmtTree.if_else word opening e closing a otherwise c))))
+after_block u b (while_lead word opening e closing) a = Some (listing (at u (Stmts.more_stmts b (StmtTree.repeat word opening e closing a))))
+after_block u b (left_lead word) a = Some (enter (at u b) (right_lead word a))
+after_block u b (right_lead word a) c = Some (listing (at u (Stmts.more_stmts b (StmtTree.par word a c))))
+after_block u b (recover_lead target equals word) a = None
 
 -- the state behind a brace that closes the open block
 abbrev pub close_block : Open → Token → Option State
 close_block (at (body d) b) t = None
-close_block (at (inside u c lead opening) b) t = closed u c lead (BlockTree.block opening b t)
+close_block (at (inside u c lead opening) b) t = after_block u c lead (BlockTree.block opening b t)
 
 -- `give` ends the block of a recover
 abbrev pub gives : Outer → Stmts → Lead → Token → Stmts → Token → Option State
@@ -319,7 +319,7 @@ step_local_named o ty name t _ = None
 
 -- the state behind a token where a statement has begun with a name, if the token isn't dead
 abbrev pub step_begun : Open → Token → Token → TokenKind → Option State
-step_begun o name t kind.Assign = taken (sameb the_type kind.Name name.kind) (value_due (assigning o (TargetTree.known name) t))
+step_begun o name t kind.Assign = state_if (sameb the_type kind.Name name.kind) (value_due (assigning o (TargetTree.known name) t))
 step_begun o name t kind.Dot = Some (expects (λ rest. open_text o (name ∷ t ∷ rest)) (level_open o) (exactly kind.Name) (λ member. member_seen o name t member))
 step_begun o name t kind.OpenBracket = Some (operand [] (to_index o name t))
 step_begun o name t _ = None
@@ -348,7 +348,7 @@ step_value_named a name t other = behind (ExprTree.variable name) [] (to_arg (to
 
 -- the state behind a token where a right side has a member, if the token isn't dead
 abbrev pub step_value_member : Assigning → Token → Token → Token → Token → TokenKind → Option State
-step_value_member a name dot member t kind.Semicolon = Some (assigned a (RhsTree.field name dot member) t)
+step_value_member a name dot member t kind.Semicolon = Some (after_value a (RhsTree.field name dot member) t)
 step_value_member a name dot member t kind.OpenParen = Some (args_due (call_part (to_assign a) (RecvTree.lent name) dot member t))
 step_value_member a name dot member t _ = None
 
@@ -357,7 +357,7 @@ abbrev pub step_value_consumed : Assigning → Token → Token → Token → Tok
 step_value_consumed a word name t kind.Dot =
     Some (expects (λ rest. assigning_text a (word ∷ name ∷ t ∷ rest)) (level_assigning a) (exactly kind.Name)
     (λ member. ends_value a (RhsTree.take_field word name t member) (λ rest. word ∷ name ∷ t ∷ member ∷ rest)))
-step_value_consumed a word name t kind.Semicolon = Some (assigned a (RhsTree.value (ArgTree.consumed word name)) t)
+step_value_consumed a word name t kind.Semicolon = Some (after_value a (RhsTree.value (ArgTree.consumed word name)) t)
 step_value_consumed a word name t _ = None
 
 -- the state behind a token where a right side has begun with a parenthesis, if the token isn't dead
@@ -377,7 +377,7 @@ step_new a word t _ = None
 
 -- a token of this kind: None where it is dead
 abbrev pub step_as : State → Token → TokenKind → Option State
-step_as (expects so_far d wanted next) t other = taken (suits wanted other) (next t)
+step_as (expects so_far d wanted next) t other = state_if (suits wanted other) (next t)
 step_as (between_classes list) t other = step_classes list t other
 step_as (in_class c) t other = step_in_class c t other
 step_as (perm_seen k p word) t other = step_perm_seen k p word t other
@@ -410,11 +410,11 @@ step q t = step_as q t t.kind
 -- ---- a list of tokens
 
 -- the levels behind the tokens that are taken, and the state behind them all
-abbrev pub noted : Option State → (State → List ℕ × Option State) → List ℕ × Option State
-noted None go = ([], None)
-noted (Some q) go = let r = go q in (level_state q ∷ r.0, r.1)
+abbrev pub note_level : Option State → (State → List ℕ × Option State) → List ℕ × Option State
+note_level None go = ([], None)
+note_level (Some q) go = let r = go q in (level_state q ∷ r.0, r.1)
 
 -- the levels behind tokens, and the state behind them all
 abbrev pub walk : State → List Token → List ℕ × Option State
 walk q [] = ([], Some q)
-walk q (t ∷ ts) = noted (step q t) (λ r. walk r ts)
+walk q (t ∷ ts) = note_level (step q t) (λ r. walk r ts)

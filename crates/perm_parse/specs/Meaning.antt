@@ -27,19 +27,19 @@ use Rattle.perm_parse.specs.Grammar.{TypeTree, ExprTree, ArgTree, ArgList, Args,
 -- ---- names
 
 -- the number of a name that stands at this place or nowhere
-abbrev pub numbered : List ℕ → Listing → Option ℕ → ℕ × Listing
-numbered name s (Some at) = (at, s)
-numbered name s None = (length s.names, record s { names = s.names ++ name ∷ [] })
+abbrev pub number_at : List ℕ → Listing → Option ℕ → ℕ × Listing
+number_at name s (Some at) = (at, s)
+number_at name s None = (length s.names, record s { names = s.names ++ name ∷ [] })
 
 -- the number of a name, by its bytes in the text: that of its first appearance
-abbrev pub named : List ℕ → Token → Listing → ℕ × Listing
-named text t s =
+abbrev pub number_of : List ℕ → Token → Listing → ℕ × Listing
+number_of text t s =
     let name = slice_range text t.span.start t.span.end in
-    numbered name s (position (λ other. bytes_eq other name) s.names)
+    number_at name s (position (λ other. bytes_eq other name) s.names)
 
 -- a name where it stands, by its number
 abbrev pub ident : List ℕ → Token → Listing → Ident × Listing
-ident text t s = let r = named text t s in (record { name = r.0; span = t.span }, r.1)
+ident text t s = let r = number_of text t s in (record { name = r.0; span = t.span }, r.1)
 
 -- `this` has number 0
 abbrev pub var_as : List ℕ → Token → Listing → TokenKind → Ident × Listing
@@ -265,12 +265,19 @@ params_of text Params.no_params s = ([], s)
 params_of text (Params.params list) s = param_list_of text list s
 
 -- what stands of a method before its body, and the program after it
-abbrev pub method_of : List ℕ → TypeTree → Token → Params → Listing → Ty × Ident × List FieldDecl × Listing
+pub record MethodHead : Type 0 where
+  pub result : Ty
+  pub name : Ident
+  pub params : List FieldDecl
+  pub program : Listing
+
+-- the head of a method
+abbrev pub method_of : List ℕ → TypeTree → Token → Params → Listing → MethodHead
 method_of text ty name list s =
     let x = type_of text ty s in
     let y = ident text name x.1 in
     let z = params_of text list y.1 in
-    (x.0, y.0, z.0, z.1)
+    record { result = x.0; name = y.0; params = z.0; program = z.1 }
 
 -- the fields and the methods so far, with one member more
 abbrev pub member_of : List ℕ → MemberTree → List FieldDecl → List Method → Listing → List FieldDecl × List Method × Listing
@@ -280,9 +287,9 @@ member_of text (MemberTree.field_member ty name end) fields methods s =
     (fields ++ record { ty = x.0; name = y.0 } ∷ [], methods, y.1)
 member_of text (MemberTree.method ty name opening list closing p perm start b word a end finish) fields methods s =
     let head = method_of text ty name list s in
-    let x = stmts_of text b head.3 in
+    let x = stmts_of text b head.program in
     let y = arg_of text a x.1 in
-    let made : Method = record { result = head.0; name = head.1; params = head.2; receiver = p; body = record { stmts = x.0 }; back = y.0; span = span_over word end } in
+    let made : Method = record { result = head.result; name = head.name; params = head.params; receiver = p; body = record { stmts = x.0 }; back = y.0; span = span_over word end } in
     (fields, methods ++ made ∷ [], y.1)
 
 -- what the members of a class means, and the program after it

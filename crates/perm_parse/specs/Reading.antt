@@ -21,8 +21,8 @@ use Rattle.perm_tree.specs.declared.ast.Expr.{Expr}
 use Rattle.perm_tree.specs.declared.ast.Ident.{Ident}
 use Rattle.perm_parse.specs.Grammar.{Is, IsVar, TypeTree, ExprTree, ArgTree, Args, RhsTree, StmtTree, Stmts, level, CallTree, RecvTree, BlockTree}
 use Rattle.perm_parse.specs.States.{State, Pending, Purpose, ArgFor, ArgsPart, CallPart, TypeFor, Assigning, Outer, Open, Room, level_purpose, level_pending, level_arg_for, level_call_part, level_type_for, level_assigning, level_open, level_outer, CallFor, level_call_for, Lead, Wanted, level_state}
-use Rattle.perm_parse.specs.Machine.{op_of, push_arg, close_call, typed, assigned, gives_receiver, enter, closed, finish}
-use Rattle.perm_parse.specs.Meaning.{named, ident, var, push_expr, expr_of, arg_of, arg_list_of, args_of, type_of, type_first, push_mention, rhs_of, head_last, stmt_of, push_stmt, simple, call_of, stmts_of, block_of, block_last}
+use Rattle.perm_parse.specs.Machine.{op_of, push_arg, close_call, after_type, after_value, gives_receiver, enter, after_block, finish}
+use Rattle.perm_parse.specs.Meaning.{number_of, ident, var, push_expr, expr_of, arg_of, arg_list_of, args_of, type_of, type_first, push_mention, rhs_of, head_last, stmt_of, push_stmt, simple, call_of, stmts_of, block_of, block_last}
 use Rattle.perm_parse.specs.Parses.{deepest}
 use Rattle.perm_parse.specs.Answers.{Answer, read_from, unexpected, too_deep}
 
@@ -54,9 +54,9 @@ pub record Onward (old new : Parser) : Type 0 where
   pub stmts : length old.program.stmts ≤ length new.program.stmts
 
 -- a token of this kind is taken, or it doesn't come next
-abbrev pub Expected : TokenKind → Parser → Parser → Result Token ParseError → Type 0
-Expected wanted old new (Ok t) = Next old t × Is wanted t × IsAhead old new
-Expected wanted old new (Err e) = (e ≡ Unexpected old.at) × ((t : Token) → Next old t → Is wanted t → ⊥)
+abbrev pub TakesToken : TokenKind → Parser → Parser → Result Token ParseError → Type 0
+TakesToken wanted old new (Ok t) = Next old t × Is wanted t × IsAhead old new
+TakesToken wanted old new (Err e) = (e ≡ Unexpected old.at) × ((t : Token) → Next old t → Is wanted t → ⊥)
 
 -- a token of this kind comes next
 abbrev pub IsNext : TokenKind → Parser → Type 0
@@ -67,16 +67,16 @@ abbrev pub IsNotNext : TokenKind → Parser → Type 0
 IsNotNext wanted p = (t : Token) → Next p t → Is wanted t → ⊥
 
 -- a name or `this` is taken, or it doesn't come next
-abbrev pub ExpectedVar : Parser → Parser → Result Token ParseError → Type 0
-ExpectedVar old new (Ok t) = Next old t × IsVar t × IsAhead old new
-ExpectedVar old new (Err e) = (e ≡ Unexpected old.at) × ((t : Token) → Next old t → IsVar t → ⊥)
+abbrev pub TakesVar : Parser → Parser → Result Token ParseError → Type 0
+TakesVar old new (Ok t) = Next old t × IsVar t × IsAhead old new
+TakesVar old new (Err e) = (e ≡ Unexpected old.at) × ((t : Token) → Next old t → IsVar t → ⊥)
 
 -- a bracket or a unary operator is taken, or it doesn't come next, or it opens a level too many
-abbrev pub Opened : TokenKind → ℕ → Parser → Parser → Result Token ParseError → Type 0
-Opened wanted depth old new (Ok t) = Next old t × Is wanted t × IsAhead old new × (depth < deepest)
-Opened wanted depth old new (Err (Unexpected i)) = (i ≡ old.at) × ((t : Token) → Next old t → Is wanted t → ⊥)
-Opened wanted depth old new (Err (TooDeep i)) = (i ≡ old.at) × IsNext wanted old × (depth ≡ deepest)
-Opened wanted depth old new (Err NoMemory) = ⊥
+abbrev pub OpensLevel : TokenKind → ℕ → Parser → Parser → Result Token ParseError → Type 0
+OpensLevel wanted depth old new (Ok t) = Next old t × Is wanted t × IsAhead old new × (depth < deepest)
+OpensLevel wanted depth old new (Err (Unexpected i)) = (i ≡ old.at) × ((t : Token) → Next old t → Is wanted t → ⊥)
+OpensLevel wanted depth old new (Err (TooDeep i)) = (i ≡ old.at) × IsNext wanted old × (depth ≡ deepest)
+OpensLevel wanted depth old new (Err NoMemory) = ⊥
 
 -- the same place
 pub record IsHere (old new : Parser) : Type 0 where
@@ -85,29 +85,29 @@ pub record IsHere (old new : Parser) : Type 0 where
   pub at : new.at ≡ old.at
 
 -- an expression is added, and this is its place
-abbrev pub Pushed : Expr → Parser → Parser → Result ℕ ParseError → Type 0
-Pushed e old new (Ok n) = (n ≡ length old.program.exprs) × (new.program ≡ (push_expr e old.program).1) × IsHere old new
-Pushed e old new (Err err) = err ≡ NoMemory
+abbrev pub PushesExpr : Expr → Parser → Parser → Result ℕ ParseError → Type 0
+PushesExpr e old new (Ok n) = (n ≡ length old.program.exprs) × (new.program ≡ (push_expr e old.program).1) × IsHere old new
+PushesExpr e old new (Err err) = err ≡ NoMemory
 
 -- the name of a token has this number
-abbrev pub Numbered : Token → Parser → Parser → Result ℕ ParseError → Type 0
-Numbered t old new (Ok n) = (n ≡ (named old.text.now t old.program).0) × (new.program ≡ (named old.text.now t old.program).1) × IsHere old new
-Numbered t old new (Err err) = err ≡ NoMemory
+abbrev pub NumbersName : Token → Parser → Parser → Result ℕ ParseError → Type 0
+NumbersName t old new (Ok n) = (n ≡ (number_of old.text.now t old.program).0) × (new.program ≡ (number_of old.text.now t old.program).1) × IsHere old new
+NumbersName t old new (Err err) = err ≡ NoMemory
 
 -- the same with its span
-abbrev pub Named : Token → Parser → Parser → Result Ident ParseError → Type 0
-Named t old new (Ok i) = (i ≡ (ident old.text.now t old.program).0) × (new.program ≡ (ident old.text.now t old.program).1) × IsHere old new
-Named t old new (Err err) = err ≡ NoMemory
+abbrev pub NamesToken : Token → Parser → Parser → Result Ident ParseError → Type 0
+NamesToken t old new (Ok i) = (i ≡ (ident old.text.now t old.program).0) × (new.program ≡ (ident old.text.now t old.program).1) × IsHere old new
+NamesToken t old new (Err err) = err ≡ NoMemory
 
 -- a class name is added to the mentioned ones
-abbrev pub Mentioned : Ident → Parser → Parser → Result (Unit {0}) ParseError → Type 0
-Mentioned i old new (Ok u) = (new.program ≡ push_mention i old.program) × IsHere old new
-Mentioned i old new (Err err) = err ≡ NoMemory
+abbrev pub MentionsClass : Ident → Parser → Parser → Result (Unit {0}) ParseError → Type 0
+MentionsClass i old new (Ok u) = (new.program ≡ push_mention i old.program) × IsHere old new
+MentionsClass i old new (Err err) = err ≡ NoMemory
 
 -- the same of a name or `this`
-abbrev pub Variable : Token → Parser → Parser → Result Ident ParseError → Type 0
-Variable t old new (Ok i) = (i ≡ (var old.text.now t old.program).0) × (new.program ≡ (var old.text.now t old.program).1) × IsHere old new
-Variable t old new (Err err) = err ≡ NoMemory
+abbrev pub NamesVar : Token → Parser → Parser → Result Ident ParseError → Type 0
+NamesVar t old new (Ok i) = (i ≡ (var old.text.now t old.program).0) × (new.program ≡ (var old.text.now t old.program).1) × IsHere old new
+NamesVar t old new (Err err) = err ≡ NoMemory
 
 -- ---- from state to state
 
@@ -116,14 +116,14 @@ pub record Leads (p : Parser) (q : State) (r : Parser) (s : State) : Type 0 wher
   pub same : From p q ≡ From r s
 
 -- the refusal is this answer
-abbrev pub Refused : ParseError → Answer → Type 0
-Refused (Unexpected i) answer = answer ≡ unexpected i
-Refused (TooDeep i) answer = answer ≡ too_deep i
-Refused NoMemory answer = Unit {0}
+abbrev pub IsRefusal : ParseError → Answer → Type 0
+IsRefusal (Unexpected i) answer = answer ≡ unexpected i
+IsRefusal (TooDeep i) answer = answer ≡ too_deep i
+IsRefusal NoMemory answer = Unit {0}
 
 -- this is the refusal that a parser gives from a state, or memory ran out
 pub record Refuses (p : Parser) (q : State) (e : ParseError) : Type 0 where
-  pub says : Refused e (From p q)
+  pub says : IsRefusal e (From p q)
 
 -- ---- expressions
 
@@ -220,7 +220,7 @@ pub record ShapeRead (depth : ℕ) (p : Perm) (old new : Parser) (t : Ty) : Type
   pub first : (word : Token) → type_first (tree word) ≡ word
   pub is : (word : Token) → t ≡ (type_of old.text.now (tree word) old.program).0
   pub program : (word : Token) → new.program ≡ (type_of old.text.now (tree word) old.program).1
-  pub leads : (k : TypeFor) (word : Token) → level_type_for k ≡ depth → Leads old (State.perm_seen k p word) new (typed k (tree word))
+  pub leads : (k : TypeFor) (word : Token) → level_type_for k ≡ depth → Leads old (State.perm_seen k p word) new (after_type k (tree word))
 
 -- what a method that reads a type behind its permission answers: it was read, whatever stands round it, or refused
 abbrev pub ReadsShape : ℕ → Perm → Parser → Parser → Result Ty ParseError → Type 0
@@ -233,7 +233,7 @@ pub record TypeRead (depth : ℕ) (old new : Parser) (t : Ty) : Type 0 where
   pub first : Next old (type_first tree)
   pub is : t ≡ (type_of old.text.now tree old.program).0
   pub program : new.program ≡ (type_of old.text.now tree old.program).1
-  pub leads : (k : TypeFor) → level_type_for k ≡ depth → Leads old (State.type_due k) new (typed k tree)
+  pub leads : (k : TypeFor) → level_type_for k ≡ depth → Leads old (State.type_due k) new (after_type k tree)
 
 -- what a method that reads a type answers: it was read, whatever stands round it, or refused
 abbrev pub ReadsType : ℕ → Parser → Parser → Result Ty ParseError → Type 0
@@ -302,7 +302,7 @@ pub record ValueRead (depth : ℕ) (old new : Parser) (v : Value) : Type 0 where
   pub is : v.rhs ≡ (rhs_of old.text.now tree old.program).0
   pub program : new.program ≡ (rhs_of old.text.now tree old.program).1
   pub head : v.head ≡ head_last tree v.end
-  pub leads : (a : Assigning) → level_assigning a ≡ depth → Leads old (State.value_due a) new (assigned a tree v.end)
+  pub leads : (a : Assigning) → level_assigning a ≡ depth → Leads old (State.value_due a) new (after_value a tree v.end)
 
 -- what a method that reads a right side answers: it was read, whatever stands round it, or refused
 abbrev pub ReadsValue : ℕ → Parser → Parser → Result Value ParseError → Type 0
@@ -312,9 +312,9 @@ ReadsValue depth old new (Err e) = (a : Assigning) → level_assigning a ≡ dep
 -- ---- statements
 
 -- a statement is added, and this is its place
-abbrev pub PushedStmt : Stmt → Parser → Parser → Result ℕ ParseError → Type 0
-PushedStmt x old new (Ok n) = (n ≡ length old.program.stmts) × (new.program ≡ (push_stmt x old.program).1) × IsHere old new
-PushedStmt x old new (Err err) = err ≡ NoMemory
+abbrev pub PushesStmt : Stmt → Parser → Parser → Result ℕ ParseError → Type 0
+PushesStmt x old new (Ok n) = (n ≡ length old.program.stmts) × (new.program ≡ (push_stmt x old.program).1) × IsHere old new
+PushesStmt x old new (Err err) = err ≡ NoMemory
 
 -- the semicolon of a statement with no block was taken, and the statement is added at this place
 pub record StmtEnded (first : Token) (k : StmtKind) (old new : Parser) (n : ℕ) : Type 0 where
@@ -365,12 +365,12 @@ begins_stmt kind.Par = true
 begins_stmt _ = false
 
 -- a token comes next that begins a statement
-abbrev pub IsBegun : Parser → Type 0
-IsBegun p = (t : Token) × (Next p t × (begins_stmt t.kind ≡ true))
+abbrev pub IsStmtNext : Parser → Type 0
+IsStmtNext p = (t : Token) × (Next p t × (begins_stmt t.kind ≡ true))
 
 -- the next token begins no statement
-abbrev pub IsEnded : Parser → Type 0
-IsEnded p = (t : Token) → Next p t → begins_stmt t.kind ≡ false
+abbrev pub IsNoStmtNext : Parser → Type 0
+IsNoStmtNext p = (t : Token) → Next p t → begins_stmt t.kind ≡ false
 
 -- statements were read, whatever blocks stand round them
 pub record StmtsRead (depth : ℕ) (old new : Parser) (list : List ℕ) : Type 0 where
@@ -386,7 +386,7 @@ ReadsStmts depth old new (Err e) = (u : Outer) → level_outer u ≡ depth → R
 
 -- the brace that closes the block of this statement leads to this state, whatever is in the block
 abbrev pub Closes : Outer → Stmts → Lead → (BlockTree → State) → Type 0
-Closes u b lead next = (a : BlockTree) → closed u b lead a ≡ Some (next a)
+Closes u b lead next = (a : BlockTree) → after_block u b lead a ≡ Some (next a)
 
 -- a block was read, whatever statement it is part of
 pub record BlockRead (depth : ℕ) (old new : Parser) (v : Braced) : Type 0 where

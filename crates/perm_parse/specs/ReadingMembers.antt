@@ -13,9 +13,9 @@ use Rattle.perm_parse.specs.declared.members.Returned.{Returned}
 use Rattle.perm_parse.specs.declared.members.Signature.{Signature}
 use Rattle.perm_parse.specs.Grammar.{Is, perm_word, TypeTree, ArgTree, Stmts, ParamList, Params, MemberTree, Members, Classes}
 use Rattle.perm_parse.specs.States.{State, TypeFor, Outer, Open, ClassPart, MethodPart, BodyPart, level_type_for}
-use Rattle.perm_parse.specs.Machine.{type_named, end_method}
+use Rattle.perm_parse.specs.Machine.{after_named_type, end_method}
 use Rattle.perm_parse.specs.Meaning.{ident, type_of, arg_of, stmts_of, param_list_of, params_of, member_of, members_of, classes_of, span_over, meaning}
-use Rattle.perm_parse.specs.Reading.{Next, IsAhead, IsHere, Leads, Refused, Refuses}
+use Rattle.perm_parse.specs.Reading.{Next, IsAhead, IsHere, Leads, IsRefusal, Refuses}
 use Rattle.perm_parse.specs.Answers.{parsed, read}
 
 -- ---- types with names
@@ -33,7 +33,7 @@ pub record DeclRead (depth : ℕ) (old new : Parser) (d : FieldDecl) : Type 0 wh
   pub name : Token
   pub is : d ≡ (decl_of old.text.now tree name old.program).0
   pub program : new.program ≡ (decl_of old.text.now tree name old.program).1
-  pub leads : (k : TypeFor) → level_type_for k ≡ depth → Leads old (State.type_due k) new (type_named k tree name)
+  pub leads : (k : TypeFor) → level_type_for k ≡ depth → Leads old (State.type_due k) new (after_named_type k tree name)
 
 -- a type and a name were read or refused, whatever they are for
 abbrev pub ReadsDecl : ℕ → Parser → Parser → Result FieldDecl ParseError → Type 0
@@ -65,9 +65,9 @@ ReadsParams old new (Err e) = (m : MethodPart) → Refuses old (State.params_due
 -- ---- methods
 
 -- the word of a permission is taken
-abbrev pub ExpectedPerm : Parser → Parser → Result Perm ParseError → Type 0
-ExpectedPerm old new (Ok p) = (t : Token) × (Next old t × Is (perm_word p) t × IsAhead old new)
-ExpectedPerm old new (Err e) = (e ≡ Unexpected old.at) × ((t : Token) → Next old t → (p : Perm) → Is (perm_word p) t → ⊥)
+abbrev pub TakesPerm : Parser → Parser → Result Perm ParseError → Type 0
+TakesPerm old new (Ok p) = (t : Token) × (Next old t × Is (perm_word p) t × IsAhead old new)
+TakesPerm old new (Err e) = (e ≡ Unexpected old.at) × ((t : Token) → Next old t → (p : Perm) → Is (perm_word p) t → ⊥)
 
 -- the parameters and the permission of a method were read, up to the brace behind them
 pub record SignatureRead (old new : Parser) (s : Signature) : Type 0 where
@@ -172,9 +172,9 @@ ReadsMembers old new (Err e) = (list : Classes) (word name opening : Token) → 
 -- ---- classes
 
 -- a class is added
-abbrev pub PushedClass : ClassDecl → Parser → Parser → Result (Unit {0}) ParseError → Type 0
-PushedClass class old new (Ok u) = (new.program ≡ record old.program { classes = old.program.classes ++ class ∷ [] }) × IsHere old new
-PushedClass class old new (Err e) = e ≡ NoMemory
+abbrev pub PushesClass : ClassDecl → Parser → Parser → Result (Unit {0}) ParseError → Type 0
+PushesClass class old new (Ok u) = (new.program ≡ record old.program { classes = old.program.classes ++ class ∷ [] }) × IsHere old new
+PushesClass class old new (Err e) = e ≡ NoMemory
 
 -- the program with one class more
 abbrev pub with_class : List ℕ → Token → Members → Listing → Listing
@@ -215,4 +215,4 @@ ReadsClasses old new (Err e) = Refuses old (State.between_classes Classes.no_cla
 -- the reading of all tokens gives this program or this refusal, unless memory ran out
 abbrev pub Gives : List ℕ → List Token → Result Listing ParseError → Type 0
 Gives text tokens (Ok program) = (tree : Classes) × (read tokens ≡ parsed tree) × (program ≡ meaning text tree)
-Gives text tokens (Err e) = Refused e (read tokens)
+Gives text tokens (Err e) = IsRefusal e (read tokens)

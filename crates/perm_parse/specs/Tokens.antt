@@ -8,5 +8,5 @@ abbrev pub IsOver : List ℕ → List Token → Type 0
 IsOver text tokens = (k : ℕ) (t : Token) → slice_get tokens k ≡ Some t → (t.span.start ≤ t.span.end) × (t.span.end ≤ length text) × (t.value < 2 ^ 63)
 
 -- the bytes of stretches of a text
-abbrev pub spelled : List (Bor (List ℕ)) → List (List ℕ)
-spelled ks = map (λ (k : Bor (List ℕ)). k.now) ks
+abbrev pub spellings : List (Bor (List ℕ)) → List (List ℕ)
+spellings ks = map (λ (k : Bor (List ℕ)). k.now) ks

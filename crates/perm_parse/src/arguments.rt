@@ -3,6 +3,7 @@
 ghost use Rattle.std.specs.Prelude.{ℕ, ◌+◌, ◌<◌, ◌≤◌, length, IfOk};
 ghost use Rattle.perm_tree.specs.Places.{ArgPlaced, ArgsPlaced};
 ghost use Rattle.perm_parse.specs.Reading.{IsNext, Onward, ReadsArg, ReadsArgs, ReadsGiven};
+ghost use Rattle.perm_parse.specs.Parses.{deepest};
 
 use crate::cursor::append;
 use crate::parser::Parser;
@@ -14,7 +15,7 @@ use perm_tree::tokens::TokenKind;
 impl<'a> Parser<'a> {
     /// `E` or `consume x`
     pub fn arg(&mut self, depth: usize) -> Result<Arg, ParseError>
-        requires { depth ≤ 100 }
+        requires { depth ≤ deepest }
         ensures reads { ReadsArg depth self.old self.new result }
         ensures onward { Onward self.old self.new }
         ensures placed { IfOk result (ArgPlaced (length self.new.program.exprs)) }
@@ -28,7 +29,7 @@ impl<'a> Parser<'a> {
 
     /// `consume x`
     fn consumed(&mut self, depth: usize) -> Result<Arg, ParseError>
-        requires depth { depth ≤ 100 }
+        requires depth { depth ≤ deepest }
         requires next { IsNext TokenKind.Consume self.old }
         ensures reads { ReadsArg depth self.old self.new result }
         ensures onward { Onward self.old self.new }
@@ -42,7 +43,7 @@ impl<'a> Parser<'a> {
 
     /// The arguments of a call and its closing parenthesis, behind the opening one.
     pub fn args(&mut self, depth: usize) -> Result<List<Arg>, ParseError>
-        requires { depth ≤ 100 }
+        requires { depth ≤ deepest }
         ensures reads { ReadsArgs depth self.old self.new result }
         ensures onward { Onward self.old self.new }
         ensures placed { IfOk result (ArgsPlaced (length self.new.program.exprs)) }
@@ -65,7 +66,7 @@ impl<'a> Parser<'a> {
 
     /// A call behind its `( consume`
     pub fn given_call(&mut self, depth: usize) -> Result<Call, ParseError>
-        requires { depth < 100 }
+        requires { depth < deepest }
         ensures reads { ReadsGiven depth self.old self.new result }
         ensures onward { Onward self.old self.new }
         ensures placed { IfOk result (λ c. ArgsPlaced (length self.new.program.exprs) c.args) }

@@ -3,7 +3,8 @@
 ghost use Rattle.std.specs.Prelude.{◌≡◌, ℕ, ◌+◌, ◌≤◌, ◌<◌, length, IfOk};
 ghost use Rattle.std.specs.Bool.{OnTrue, OnFalse};
 ghost use Rattle.perm_tree.specs.Places.{AllBelow, RhsPlaced};
-ghost use Rattle.perm_parse.specs.Reading.{IsBegun, IsEnded, IsNext, IsNextType, IsNotSecond, Onward, ReadsBlock, ReadsStmt, ReadsStmts, ReadsTest, ReadsValue, begins_stmt};
+ghost use Rattle.perm_parse.specs.Reading.{IsStmtNext, IsNoStmtNext, IsNext, IsNextType, IsNotSecond, Onward, ReadsBlock, ReadsStmt, ReadsStmts, ReadsTest, ReadsValue, begins_stmt};
+ghost use Rattle.perm_parse.specs.Parses.{deepest};
 
 use crate::cursor::append;
 use crate::parser::{Braced, Parser, Test, Value};
@@ -38,8 +39,8 @@ fn begins_stmt(kind: TokenKind) -> bool
 impl<'a> Parser<'a> {
     /// Whether a statement comes next.
     fn at_stmt(&self) -> bool
-        ensures yes { OnTrue result (IsBegun self.now) }
-        ensures no { OnFalse result (IsEnded self.now) }
+        ensures yes { OnTrue result (IsStmtNext self.now) }
+        ensures no { OnFalse result (IsNoStmtNext self.now) }
     {
         match self.peek() {
             Some(token) => begins_stmt(token.kind),
@@ -50,9 +51,9 @@ impl<'a> Parser<'a> {
     /// Statements, up to a token that begins none.
     #[cycle(statements)]
     pub fn stmts(&mut self, depth: usize) -> Result<List<u32>, ParseError>
-        requires { depth ≤ 100 }
+        requires { depth ≤ deepest }
         ensures reads { ReadsStmts depth self.old self.new result }
-        ensures ended { IfOk result (λ list. IsEnded self.new) }
+        ensures ended { IfOk result (λ list. IsNoStmtNext self.new) }
         ensures onward { Onward self.old self.new }
         ensures below { IfOk result (AllBelow (length self.new.program.stmts)) }
     {
@@ -67,8 +68,8 @@ impl<'a> Parser<'a> {
     /// A statement.
     #[cycle(statements)]
     fn stmt(&mut self, depth: usize) -> Result<u32, ParseError>
-        requires depth { depth ≤ 100 }
-        requires begun { IsBegun self.old }
+        requires depth { depth ≤ deepest }
+        requires begun { IsStmtNext self.old }
         ensures reads { ReadsStmt depth self.old self.new result }
         ensures onward { Onward self.old self.new }
         ensures below { IfOk result (λ n. n < length self.new.program.stmts) }
@@ -91,7 +92,7 @@ impl<'a> Parser<'a> {
 
     /// A statement that begins with `this`
     fn this_stmt(&mut self, depth: usize) -> Result<u32, ParseError>
-        requires depth { depth ≤ 100 }
+        requires depth { depth ≤ deepest }
         requires next { IsNext TokenKind.This self.old }
         ensures reads { ReadsStmt depth self.old self.new result }
         ensures onward { Onward self.old self.new }
@@ -111,7 +112,7 @@ impl<'a> Parser<'a> {
     /// A statement that begins with a name
     #[cycle(statements)]
     fn named_stmt(&mut self, depth: usize) -> Result<u32, ParseError>
-        requires depth { depth ≤ 100 }
+        requires depth { depth ≤ deepest }
         requires next { IsNext TokenKind.Name self.old }
         ensures reads { ReadsStmt depth self.old self.new result }
         ensures onward { Onward self.old self.new }
@@ -130,7 +131,7 @@ impl<'a> Parser<'a> {
     /// `x = R;`
     #[cycle(statements)]
     fn assign_stmt(&mut self, depth: usize) -> Result<u32, ParseError>
-        requires depth { depth ≤ 100 }
+        requires depth { depth ≤ deepest }
         requires next { IsNext TokenKind.Name self.old }
         requires no_dot { IsNotSecond TokenKind.Dot self.old }
         requires no_bracket { IsNotSecond TokenKind.OpenBracket self.old }
@@ -153,7 +154,7 @@ impl<'a> Parser<'a> {
     /// `T x;` or `T x = R;`
     #[cycle(statements)]
     fn local_stmt(&mut self, depth: usize) -> Result<u32, ParseError>
-        requires depth { depth ≤ 100 }
+        requires depth { depth ≤ deepest }
         requires next { IsNextType self.old }
         ensures reads { ReadsStmt depth self.old self.new result }
         ensures onward { Onward self.old self.new }
@@ -181,7 +182,7 @@ impl<'a> Parser<'a> {
     /// A right side with its semicolon
     #[cycle(statements)]
     fn value(&mut self, depth: usize) -> Result<Value, ParseError>
-        requires depth { depth ≤ 100 }
+        requires depth { depth ≤ deepest }
         ensures reads { ReadsValue depth self.old self.new result }
         ensures onward { Onward self.old self.new }
         ensures placed { IfOk result (λ v. RhsPlaced (length self.new.program.exprs) (length self.new.program.stmts) v.rhs) }
@@ -203,7 +204,7 @@ impl<'a> Parser<'a> {
     /// `recover { .. give w; };`
     #[cycle(statements)]
     fn recover_value(&mut self, depth: usize) -> Result<Value, ParseError>
-        requires depth { depth ≤ 100 }
+        requires depth { depth ≤ deepest }
         requires next { IsNext TokenKind.Recover self.old }
         ensures reads { ReadsValue depth self.old self.new result }
         ensures onward { Onward self.old self.new }
@@ -228,7 +229,7 @@ impl<'a> Parser<'a> {
     /// `{ .. }`
     #[cycle(statements)]
     fn block(&mut self, depth: usize) -> Result<Braced, ParseError>
-        requires { depth ≤ 100 }
+        requires { depth ≤ deepest }
         ensures reads { ReadsBlock depth self.old self.new result }
         ensures onward { Onward self.old self.new }
         ensures below { IfOk result (λ v. AllBelow (length self.new.program.stmts) v.block.stmts) }
@@ -244,7 +245,7 @@ impl<'a> Parser<'a> {
 
     /// `( E )`, behind `if` or `while`
     fn test(&mut self, depth: usize) -> Result<Test, ParseError>
-        requires { depth ≤ 100 }
+        requires { depth ≤ deepest }
         ensures reads { ReadsTest depth self.old self.new result }
         ensures onward { Onward self.old self.new }
         ensures below { IfOk result (λ v. v.value < length self.new.program.exprs) }
@@ -258,7 +259,7 @@ impl<'a> Parser<'a> {
     /// `if ( E ) { .. }`, and what stands behind `else`
     #[cycle(statements)]
     fn if_stmt(&mut self, depth: usize) -> Result<u32, ParseError>
-        requires depth { depth ≤ 100 }
+        requires depth { depth ≤ deepest }
         requires next { IsNext TokenKind.If self.old }
         ensures reads { ReadsStmt depth self.old self.new result }
         ensures onward { Onward self.old self.new }
@@ -287,7 +288,7 @@ impl<'a> Parser<'a> {
     /// `while ( E ) { .. }`
     #[cycle(statements)]
     fn while_stmt(&mut self, depth: usize) -> Result<u32, ParseError>
-        requires depth { depth ≤ 100 }
+        requires depth { depth ≤ deepest }
         requires next { IsNext TokenKind.While self.old }
         ensures reads { ReadsStmt depth self.old self.new result }
         ensures onward { Onward self.old self.new }
@@ -307,7 +308,7 @@ impl<'a> Parser<'a> {
     /// `par { .. } { .. }`
     #[cycle(statements)]
     fn par_stmt(&mut self, depth: usize) -> Result<u32, ParseError>
-        requires depth { depth ≤ 100 }
+        requires depth { depth ≤ deepest }
         requires next { IsNext TokenKind.Par self.old }
         ensures reads { ReadsStmt depth self.old self.new result }
         ensures onward { Onward self.old self.new }

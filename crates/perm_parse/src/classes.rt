@@ -4,8 +4,8 @@ ghost use Rattle.std.specs.Prelude.{◌≡◌, ℕ, ◌+◌, ◌<◌, ◌≤◌,
 ghost use Rattle.perm_tree.specs.Places.{ClassPlaced};
 ghost use Rattle.perm_parse.specs.Meaning.{nothing_yet};
 ghost use Rattle.perm_parse.specs.Reading.{Onward};
-ghost use Rattle.perm_parse.specs.ReadingMembers.{Gives, PushedClass, ReadsClass, ReadsClasses};
-ghost use Rattle.perm_parse.specs.Tokens.{IsOver, spelled};
+ghost use Rattle.perm_parse.specs.ReadingMembers.{Gives, PushesClass, ReadsClass, ReadsClasses};
+ghost use Rattle.perm_parse.specs.Tokens.{IsOver, spellings};
 
 use crate::parser::Parser;
 use indexmap::IndexSet;
@@ -31,7 +31,7 @@ fn nothing_yet(alloc: Global) -> Result<ProgramBuilder, ParseError>
 
 /// The set of the only name `this`.
 fn this_alone<'a>(alloc: Global) -> Result<IndexSet<&'a [u8]>, ParseError>
-    ensures ok { IfOk result (λ s. spelled s.keys ≡ codes "this" ∷ []) }
+    ensures ok { IfOk result (λ s. spellings s.keys ≡ codes "this" ∷ []) }
     ensures err { IfErr result (λ e. e ≡ ParseError.NoMemory) }
 {
     let mut names: IndexSet<&'a [u8]> = IndexSet::new(alloc);
@@ -65,7 +65,7 @@ impl<'a> Parser<'a> {
     /// Adds a class.
     fn add_class(&mut self, class: ClassDecl) -> Result<(), ParseError>
         requires { ClassPlaced (length self.old.program.exprs) (length self.old.program.stmts) class }
-        ensures pushed { PushedClass class self.old self.new result }
+        ensures pushed { PushesClass class self.old self.new result }
         ensures onward { Onward self.old self.new }
     {
         match self.program.push_class(class) {

@@ -3,7 +3,8 @@
 ghost use Rattle.std.specs.Prelude.{◌≡◌, ℕ, ◌+◌, ◌<◌, ◌≤◌, [], ◌∷◌, ◌++◌, length, slice_get, IfOk, OnErr, OnOk, position, bytes_eq};
 ghost use Rattle.std.specs.Bool.{OnTrue, OnFalse};
 ghost use Rattle.perm_tree.specs.Places.{ExprBelow, KindPlaced};
-ghost use Rattle.perm_parse.specs.Reading.{Expected, ExpectedVar, IsAhead, IsNext, IsNotNext, IsNotSecond, IsSecond, Mentioned, Named, Numbered, Onward, Opened, Pushed, PushedStmt, Variable};
+ghost use Rattle.perm_parse.specs.Reading.{TakesToken, TakesVar, IsAhead, IsNext, IsNotNext, IsNotSecond, IsSecond, MentionsClass, NamesToken, NumbersName, Onward, OpensLevel, PushesExpr, PushesStmt, NamesVar};
+ghost use Rattle.perm_parse.specs.Parses.{deepest};
 
 use crate::parser::Parser;
 use perm_tree::ast::{Expr, Ident, Stmt};
@@ -58,7 +59,7 @@ impl<'a> Parser<'a> {
 
     /// Takes a token of this kind, which has to come next.
     pub fn expect(&mut self, wanted: TokenKind) -> Result<Token, ParseError>
-        ensures expected { Expected wanted self.old self.new result }
+        ensures expected { TakesToken wanted self.old self.new result }
         ensures onward { Onward self.old self.new }
     {
         let Some(token) = self.peek() else {
@@ -103,7 +104,7 @@ impl<'a> Parser<'a> {
 
     /// Takes a name or `this`, which has to come next.
     pub fn variable(&mut self) -> Result<Token, ParseError>
-        ensures expected { ExpectedVar self.old self.new result }
+        ensures expected { TakesVar self.old self.new result }
         ensures onward { Onward self.old self.new }
     {
         let Some(token) = self.peek() else {
@@ -124,8 +125,8 @@ impl<'a> Parser<'a> {
 
     /// Takes an opening bracket, or a unary operator, which has to come next.
     pub fn open(&mut self, wanted: TokenKind, depth: usize) -> Result<Token, ParseError>
-        requires { depth ≤ 100 }
-        ensures opened { Opened wanted depth self.old self.new result }
+        requires { depth ≤ deepest }
+        ensures opened { OpensLevel wanted depth self.old self.new result }
         ensures onward { Onward self.old self.new }
     {
         let Some(token) = self.peek() else {
@@ -145,7 +146,7 @@ impl<'a> Parser<'a> {
     /// Adds an expression, and answers its place.
     pub fn add_expr(&mut self, e: Expr) -> Result<u32, ParseError>
         requires { ExprBelow (length self.old.program.exprs) e }
-        ensures pushed { Pushed e self.old self.new result }
+        ensures pushed { PushesExpr e self.old self.new result }
         ensures onward { Onward self.old self.new }
         ensures below { IfOk result (λ n. n < length self.new.program.exprs) }
     {
@@ -163,7 +164,7 @@ impl<'a> Parser<'a> {
     pub fn number(&mut self, token: Token) -> Result<u32, ParseError>
         requires start { token.span.start ≤ token.span.end }
         requires end { token.span.end ≤ length self.old.text.now }
-        ensures numbered { Numbered token self.old self.new result }
+        ensures numbered { NumbersName token self.old self.new result }
         ensures onward { Onward self.old self.new }
     {
         let bytes = &self.text[token.span.start as usize..token.span.end as usize];
@@ -184,7 +185,7 @@ impl<'a> Parser<'a> {
     pub fn ident(&mut self, token: Token) -> Result<Ident, ParseError>
         requires start { token.span.start ≤ token.span.end }
         requires end { token.span.end ≤ length self.old.text.now }
-        ensures named { Named token self.old self.new result }
+        ensures named { NamesToken token self.old self.new result }
         ensures onward { Onward self.old self.new }
     {
         let name = self.number(token)?;
@@ -198,7 +199,7 @@ impl<'a> Parser<'a> {
     pub fn var(&mut self, token: Token) -> Result<Ident, ParseError>
         requires start { token.span.start ≤ token.span.end }
         requires end { token.span.end ≤ length self.old.text.now }
-        ensures named { Variable token self.old self.new result }
+        ensures named { NamesVar token self.old self.new result }
         ensures onward { Onward self.old self.new }
     {
         match token.kind {
@@ -212,7 +213,7 @@ impl<'a> Parser<'a> {
 
     /// Adds a class name that stands in a type or behind `new`.
     pub fn mention(&mut self, name: Ident) -> Result<(), ParseError>
-        ensures mentioned { Mentioned name self.old self.new result }
+        ensures mentioned { MentionsClass name self.old self.new result }
         ensures onward { Onward self.old self.new }
     {
         self.program
@@ -223,7 +224,7 @@ impl<'a> Parser<'a> {
     /// Adds a statement, and answers its place.
     pub fn add_stmt(&mut self, stmt: Stmt) -> Result<u32, ParseError>
         requires { KindPlaced (length self.old.program.exprs) (length self.old.program.stmts) stmt.kind }
-        ensures pushed { PushedStmt stmt self.old self.new result }
+        ensures pushed { PushesStmt stmt self.old self.new result }
         ensures onward { Onward self.old self.new }
         ensures below { IfOk result (λ n. n < length self.new.program.stmts) }
     {

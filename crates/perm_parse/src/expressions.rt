@@ -4,6 +4,7 @@ ghost use Rattle.std.specs.Prelude.{◌≡◌, ℕ, ◌+◌, ◌<◌, ◌≤◌,
 ghost use Rattle.perm_parse.specs.Grammar.{level, unary_sign};
 ghost use Rattle.perm_parse.specs.Machine.{op_of};
 ghost use Rattle.perm_parse.specs.Reading.{IsClosed, IsNext, Onward, ReadsExpr, of_level, operator_at};
+ghost use Rattle.perm_parse.specs.Parses.{deepest};
 
 use crate::parser::Parser;
 use perm_tree::ast::{BinaryOp, Expr, UnaryOp};
@@ -88,7 +89,7 @@ impl<'a> Parser<'a> {
     #[cycle(expressions)]
     #[tactic(auto, using(std::proofs::lemmas::Option::slice_get_within))]
     fn unary(&mut self, depth: usize) -> Result<u32, ParseError>
-        requires { depth ≤ 100 }
+        requires { depth ≤ deepest }
         ensures reads { ReadsExpr 0 depth self.old self.new result }
         ensures onward { Onward self.old self.new }
         ensures below { IfOk result (λ e. e < length self.new.program.exprs) }
@@ -133,7 +134,7 @@ impl<'a> Parser<'a> {
     /// A unary operator with its operand.
     #[cycle(expressions)]
     fn prefixed(&mut self, depth: usize, op: UnaryOp) -> Result<u32, ParseError>
-        requires depth { depth ≤ 100 }
+        requires depth { depth ≤ deepest }
         requires next { IsNext (unary_sign op) self.old }
         ensures reads { ReadsExpr 0 depth self.old self.new result }
         ensures onward { Onward self.old self.new }
@@ -147,7 +148,7 @@ impl<'a> Parser<'a> {
     /// `( E )`
     #[cycle(expressions)]
     fn parens(&mut self, depth: usize) -> Result<u32, ParseError>
-        requires depth { depth ≤ 100 }
+        requires depth { depth ≤ deepest }
         requires next { IsNext TokenKind.OpenParen self.old }
         ensures reads { ReadsExpr 0 depth self.old self.new result }
         ensures onward { Onward self.old self.new }
@@ -163,7 +164,7 @@ impl<'a> Parser<'a> {
     #[cycle(expressions)]
     #[tactic(auto, using(std::proofs::lemmas::Option::slice_get_within))]
     pub fn binary(&mut self, depth: usize, loosest: u8) -> Result<u32, ParseError>
-        requires depth { depth ≤ 100 }
+        requires depth { depth ≤ deepest }
         requires loosest { loosest ≤ 6 }
         ensures reads { ReadsExpr loosest depth self.old self.new result }
         ensures closed { IfOk result (λ e. IsClosed loosest self.new) }

@@ -6,7 +6,7 @@ ghost use Rattle.perm_tree.specs.Places.{Listing};
 ghost use Rattle.perm_tree.specs.declared.errors.ParseError.{ParseError};
 ghost use Rattle.perm_tree.specs.declared.tokens.Token.{Token};
 ghost use Rattle.perm_lex.specs.Lexes.{Lexes};
-ghost use Rattle.perm_tree.specs.CanonicalText.{canonical};
+ghost use Rattle.perm_tree.specs.Printer.Programs.{canonical};
 ghost use Rattle.perm_parse.specs.Parses.{HasOneAnswer, IsRefused, Parses};
 ghost use Rattle.perm_parse.specs.ReadsBack.{ReadsBack};
 ghost use Rattle.perm_parse.specs.SameButSpans.{SameButSpans};

@@ -2,8 +2,9 @@
 
 ghost use Rattle.std.specs.Prelude.{◌≡◌, ℕ, ◌<◌, ◌≤◌, length, IfOk, OnOk};
 ghost use Rattle.perm_tree.specs.Places.{AllBelow, ArgPlaced, ClassPlaced, MethodPlaced};
-ghost use Rattle.perm_parse.specs.Reading.{IsEnded, IsNext, IsNotNext, Onward};
-ghost use Rattle.perm_parse.specs.ReadingMembers.{ExpectedPerm, ReadsDecl, ReadsMember, ReadsMembers, ReadsMethod, ReadsParams, ReadsReturned, ReadsSignature};
+ghost use Rattle.perm_parse.specs.Reading.{IsNoStmtNext, IsNext, IsNotNext, Onward};
+ghost use Rattle.perm_parse.specs.ReadingMembers.{TakesPerm, ReadsDecl, ReadsMember, ReadsMembers, ReadsMethod, ReadsParams, ReadsReturned, ReadsSignature};
+ghost use Rattle.perm_parse.specs.Parses.{deepest};
 
 use crate::cursor::append;
 use crate::parser::Parser;
@@ -30,7 +31,7 @@ struct Returned {
 impl<'a> Parser<'a> {
     /// A type and a name
     fn decl(&mut self, depth: usize) -> Result<FieldDecl, ParseError>
-        requires { depth ≤ 100 }
+        requires { depth ≤ deepest }
         ensures reads { ReadsDecl depth self.old self.new result }
         ensures onward { Onward self.old self.new }
         ensures ahead { IfOk result (λ d. self.old.at < self.new.at) }
@@ -64,7 +65,7 @@ impl<'a> Parser<'a> {
 
     /// The word of a permission
     fn perm(&mut self) -> Result<Perm, ParseError>
-        ensures expected { ExpectedPerm self.old self.new result }
+        ensures expected { TakesPerm self.old self.new result }
         ensures onward { Onward self.old self.new }
     {
         let Some(token) = self.peek() else {
@@ -96,7 +97,7 @@ impl<'a> Parser<'a> {
 
     /// `return A; }`, behind the statements of a method
     fn returned(&mut self) -> Result<Returned, ParseError>
-        requires { IsEnded self.old }
+        requires { IsNoStmtNext self.old }
         ensures reads { ReadsReturned self.old self.new result }
         ensures onward { Onward self.old self.new }
         ensures placed { IfOk result (λ r. ArgPlaced (length self.new.program.exprs) r.back) }

@@ -1,7 +1,7 @@
 //! What a parser has in hand.
 
 ghost use Rattle.std.specs.Prelude.{◌≡◌, ℕ, ◌^◌, ◌<◌, ◌≤◌, length, slice_get};
-ghost use Rattle.perm_parse.specs.Tokens.{IsOver, spelled};
+ghost use Rattle.perm_parse.specs.Tokens.{IsOver, spellings};
 
 use indexmap::IndexSet;
 use perm_tree::ast::{Block, Ident, Rhs, Ty};
@@ -21,7 +21,7 @@ pub struct Parser<'a> {
     ghost few: { length tokens.now < 2 ^ 32 },
     ghost within: { at ≤ length tokens.now },
     ghost over: { IsOver text.now tokens.now },
-    ghost indexed: { spelled names.keys ≡ program.names },
+    ghost indexed: { spellings names.keys ≡ program.names },
 }
 
 /// The type and the name where a local variable is declared, with the first token of the type.

@@ -3,6 +3,7 @@
 ghost use Rattle.std.specs.Prelude.{◌≡◌, ℕ, ◌≤◌, ◌<◌, length, IfOk};
 ghost use Rattle.perm_tree.specs.Places.{KindPlaced};
 ghost use Rattle.perm_parse.specs.Reading.{EndsStmt, IsNext, IsNextType, IsNextVar, IsSecond, Onward, ReadsLocal, ReadsStmt};
+ghost use Rattle.perm_parse.specs.Parses.{deepest};
 
 use crate::parser::{LocalHead, Parser};
 use crate::statements::span_over;
@@ -13,7 +14,7 @@ use perm_tree::tokens::{Token, TokenKind};
 impl<'a> Parser<'a> {
     /// `Type x`, where a local variable is declared
     pub fn local_head(&mut self, depth: usize) -> Result<LocalHead, ParseError>
-        requires depth { depth ≤ 100 }
+        requires depth { depth ≤ deepest }
         requires next { IsNextType self.old }
         ensures reads { ReadsLocal depth self.old self.new result }
         ensures onward { Onward self.old self.new }
@@ -45,7 +46,7 @@ impl<'a> Parser<'a> {
 
     /// `y[i] = e;`
     pub fn item_stmt(&mut self, depth: usize) -> Result<u32, ParseError>
-        requires depth { depth ≤ 100 }
+        requires depth { depth ≤ deepest }
         requires next { IsNextVar self.old }
         requires bracket { IsSecond TokenKind.OpenBracket self.old }
         ensures reads { ReadsStmt depth self.old self.new result }
@@ -65,7 +66,7 @@ impl<'a> Parser<'a> {
 
     /// `y.f = A;` or `y.m(..);`
     pub fn member_stmt(&mut self, depth: usize) -> Result<u32, ParseError>
-        requires depth { depth ≤ 100 }
+        requires depth { depth ≤ deepest }
         requires next { IsNextVar self.old }
         requires dot { IsSecond TokenKind.Dot self.old }
         ensures reads { ReadsStmt depth self.old self.new result }
@@ -96,7 +97,7 @@ impl<'a> Parser<'a> {
 
     /// `(consume y).m(..);`
     pub fn given_stmt(&mut self, depth: usize) -> Result<u32, ParseError>
-        requires depth { depth ≤ 100 }
+        requires depth { depth ≤ deepest }
         requires next { IsNext TokenKind.OpenParen self.old }
         ensures reads { ReadsStmt depth self.old self.new result }
         ensures onward { Onward self.old self.new }

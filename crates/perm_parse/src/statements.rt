@@ -3,6 +3,7 @@
 ghost use Rattle.std.specs.Prelude.{◌≡◌, ℕ, ◌≤◌, ◌<◌, length, IfOk};
 ghost use Rattle.perm_parse.specs.Meaning.{span_over};
 ghost use Rattle.perm_parse.specs.Reading.{IsNext, Onward, ReadsStmt};
+ghost use Rattle.perm_parse.specs.Parses.{deepest};
 
 use crate::parser::Parser;
 use perm_tree::ast::{Span, Stmt, StmtKind};
@@ -22,7 +23,7 @@ pub fn span_over(first: Token, last: Token) -> Span
 impl<'a> Parser<'a> {
     /// `print E;`
     pub fn print_stmt(&mut self, depth: usize) -> Result<u32, ParseError>
-        requires depth { depth ≤ 100 }
+        requires depth { depth ≤ deepest }
         requires next { IsNext TokenKind.Print self.old }
         ensures reads { ReadsStmt depth self.old self.new result }
         ensures onward { Onward self.old self.new }

@@ -3,6 +3,7 @@
 ghost use Rattle.std.specs.Prelude.{◌≡◌, ℕ, ◌≤◌, IfOk, ◌<◌};
 ghost use Rattle.perm_parse.specs.Grammar.{perm_word};
 ghost use Rattle.perm_parse.specs.Reading.{IsNext, Onward, ReadsShape, ReadsType};
+ghost use Rattle.perm_parse.specs.Parses.{deepest};
 
 use crate::parser::Parser;
 use perm_tree::ast::{Perm, Shape, Ty};
@@ -24,7 +25,7 @@ fn perm_word(perm: Perm) -> TokenKind
 impl<'a> Parser<'a> {
     /// `long`, `bool`, or a permission with a class or `long[]`
     pub fn ty(&mut self, depth: usize) -> Result<Ty, ParseError>
-        requires { depth ≤ 100 }
+        requires { depth ≤ deepest }
         ensures reads { ReadsType depth self.old self.new result }
         ensures onward { Onward self.old self.new }
         ensures ahead { IfOk result (λ t. self.old.at < self.new.at) }
@@ -51,7 +52,7 @@ impl<'a> Parser<'a> {
 
     /// A permission with a class or `long[]`
     fn reference(&mut self, depth: usize, perm: Perm) -> Result<Ty, ParseError>
-        requires depth { depth ≤ 100 }
+        requires depth { depth ≤ deepest }
         requires next { IsNext (perm_word perm) self.old }
         ensures reads { ReadsType depth self.old self.new result }
         ensures onward { Onward self.old self.new }
@@ -63,7 +64,7 @@ impl<'a> Parser<'a> {
 
     /// A class or `long[]`, behind a permission
     fn shape(&mut self, depth: usize, perm: Perm) -> Result<Ty, ParseError>
-        requires { depth ≤ 100 }
+        requires { depth ≤ deepest }
         ensures reads { ReadsShape depth perm self.old self.new result }
         ensures onward { Onward self.old self.new }
     {
@@ -78,7 +79,7 @@ impl<'a> Parser<'a> {
 
     /// `long[]`, behind a permission
     fn array(&mut self, depth: usize, perm: Perm) -> Result<Ty, ParseError>
-        requires depth { depth ≤ 100 }
+        requires depth { depth ≤ deepest }
         requires next { IsNext TokenKind.Long self.old }
         ensures reads { ReadsShape depth perm self.old self.new result }
         ensures onward { Onward self.old self.new }

@@ -3,6 +3,7 @@
 ghost use Rattle.std.specs.Prelude.{◌≡◌, ℕ, ◌≤◌, ◌<◌, length, IfOk};
 ghost use Rattle.perm_tree.specs.Places.{RhsPlaced};
 ghost use Rattle.perm_parse.specs.Reading.{IsNext, IsNextVar, IsNotSecond, IsPlain, IsSecond, Onward, ReadsValue};
+ghost use Rattle.perm_parse.specs.Parses.{deepest};
 
 use crate::parser::{Parser, Value};
 use perm_tree::ast::{Arg, Call, Rhs};
@@ -12,7 +13,7 @@ use perm_tree::tokens::TokenKind;
 impl<'a> Parser<'a> {
     /// `E;`
     pub fn plain_value(&mut self, depth: usize) -> Result<Value, ParseError>
-        requires depth { depth ≤ 100 }
+        requires depth { depth ≤ deepest }
         requires plain { IsPlain self.old }
         ensures reads { ReadsValue depth self.old self.new result }
         ensures onward { Onward self.old self.new }
@@ -29,7 +30,7 @@ impl<'a> Parser<'a> {
 
     /// `new C();`
     pub fn object_value(&mut self, depth: usize) -> Result<Value, ParseError>
-        requires depth { depth ≤ 100 }
+        requires depth { depth ≤ deepest }
         requires next { IsNext TokenKind.New self.old }
         requires no_long { IsNotSecond TokenKind.Long self.old }
         ensures reads { ReadsValue depth self.old self.new result }
@@ -52,7 +53,7 @@ impl<'a> Parser<'a> {
 
     /// `new long[E];`
     pub fn array_value(&mut self, depth: usize) -> Result<Value, ParseError>
-        requires depth { depth ≤ 100 }
+        requires depth { depth ≤ deepest }
         requires next { IsNext TokenKind.New self.old }
         requires long { IsSecond TokenKind.Long self.old }
         ensures reads { ReadsValue depth self.old self.new result }
@@ -74,7 +75,7 @@ impl<'a> Parser<'a> {
 
     /// `consume x;` or `consume x.f;`
     pub fn consumed_value(&mut self, depth: usize) -> Result<Value, ParseError>
-        requires depth { depth ≤ 100 }
+        requires depth { depth ≤ deepest }
         requires next { IsNext TokenKind.Consume self.old }
         ensures reads { ReadsValue depth self.old self.new result }
         ensures onward { Onward self.old self.new }
@@ -104,7 +105,7 @@ impl<'a> Parser<'a> {
 
     /// `x[E];`
     pub fn item_value(&mut self, depth: usize) -> Result<Value, ParseError>
-        requires depth { depth ≤ 100 }
+        requires depth { depth ≤ deepest }
         requires next { IsNextVar self.old }
         requires bracket { IsSecond TokenKind.OpenBracket self.old }
         ensures reads { ReadsValue depth self.old self.new result }
@@ -126,7 +127,7 @@ impl<'a> Parser<'a> {
 
     /// `x.f;` or `x.m(..);`
     pub fn member_value(&mut self, depth: usize) -> Result<Value, ParseError>
-        requires depth { depth ≤ 100 }
+        requires depth { depth ≤ deepest }
         requires next { IsNextVar self.old }
         requires dot { IsSecond TokenKind.Dot self.old }
         ensures reads { ReadsValue depth self.old self.new result }
@@ -163,7 +164,7 @@ impl<'a> Parser<'a> {
 
     /// `(consume x).m(..);`
     pub fn given_value(&mut self, depth: usize) -> Result<Value, ParseError>
-        requires depth { depth ≤ 100 }
+        requires depth { depth ≤ deepest }
         requires next { IsNext TokenKind.OpenParen self.old }
         requires word { IsSecond TokenKind.Consume self.old }
         ensures reads { ReadsValue depth self.old self.new result }
@@ -183,7 +184,7 @@ impl<'a> Parser<'a> {
 
     /// A right side that begins with `new`
     pub fn new_value(&mut self, depth: usize) -> Result<Value, ParseError>
-        requires depth { depth ≤ 100 }
+        requires depth { depth ≤ deepest }
         requires next { IsNext TokenKind.New self.old }
         ensures reads { ReadsValue depth self.old self.new result }
         ensures onward { Onward self.old self.new }
@@ -197,7 +198,7 @@ impl<'a> Parser<'a> {
 
     /// A right side that begins with a variable
     pub fn var_value(&mut self, depth: usize) -> Result<Value, ParseError>
-        requires depth { depth ≤ 100 }
+        requires depth { depth ≤ deepest }
         requires next { IsNextVar self.old }
         ensures reads { ReadsValue depth self.old self.new result }
         ensures onward { Onward self.old self.new }
@@ -214,7 +215,7 @@ impl<'a> Parser<'a> {
 
     /// A right side that begins with a parenthesis
     pub fn paren_value(&mut self, depth: usize) -> Result<Value, ParseError>
-        requires depth { depth ≤ 100 }
+        requires depth { depth ≤ deepest }
         requires next { IsNext TokenKind.OpenParen self.old }
         ensures reads { ReadsValue depth self.old self.new result }
         ensures onward { Onward self.old self.new }

@@ -19,10 +19,10 @@ use Rattle.perm_tree.proofs.AcceptedNames.{names_refusal-accepted}
 
 -- ---------- words ----------
 -- two tests that pass together are one
-one-test : (a b : Bool) → (a ≡ true → b ≡ true) → (b ≡ true → a ≡ true) → a ≡ b
-one-test true b to from = sym (to refl)
-one-test false true to from = from refl
-one-test false false to from = refl
+pub same_bool : (a b : Bool) → (a ≡ true → b ≡ true) → (b ≡ true → a ≡ true) → a ≡ b
+same_bool true b to from = sym (to refl)
+same_bool false true to from = from refl
+same_bool false false to from = refl
 
 -- a distinct word has one number
 one-number : (words : List (List ℕ)) (m n : ℕ) → AllPairs (λ v w. v ≢ w) words → m < length words → n < length words → get_or words m [] ≡ get_or words n [] → m ≡ n
@@ -35,7 +35,7 @@ one-number words m n distinct in_m in_n same =
 word-test : (words : List (List ℕ)) (m n : ℕ) → AllPairs (λ v w. v ≢ w) words → m < length words → n < length words → bytes_eq (get_or words m []) (get_or words n []) ≡ nat_eq n m
 word-test words m n distinct in_m in_n =
     let decides = bytes_eq-Decides (get_or words m []) (get_or words n []) in
-    one-test
+    same_bool
     (bytes_eq (get_or words m []) (get_or words n []))
     (nat_eq n m)
     (λ t. eq-eqb n m (sym (one-number words m n distinct in_m in_n (decides.0 t))))

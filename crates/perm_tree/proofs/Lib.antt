@@ -10,11 +10,7 @@ pub mod MethodMarks
 pub mod Nested
 pub mod ParPrograms
 pub mod Passing
-pub mod PrintFits
-pub mod PrintMembers
-pub mod PrintStacks
-pub mod PrintSteps
-pub mod PrintTexts
+pub mod Printer
 pub mod Programs
 pub mod Pushes
 pub mod ResolvedLaws
@@ -23,5 +19,4 @@ pub mod ResolvedTypes
 pub mod RoutineLaws
 pub mod RunLaw
 pub mod ScopeRows
-pub mod StableSorts
 pub mod TableLaws

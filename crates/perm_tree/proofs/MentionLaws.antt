@@ -31,7 +31,7 @@ and-first false a' b more e = absurd (let no : ⊥ = cc e in no)
 pub within-minus : (G H K : Vars) → IsWithin G H → IsWithin (minus G K) (minus H K)
 within-minus G H K all x e = and-first (G x) (H x) (not (K x)) (all x) e
 
-none-within : (G : Vars) → IsWithin none G
+pub none-within : (G : Vars) → IsWithin none G
 none-within G x e = absurd (let no : ⊥ = cc e in no)
 
 -- ---------- simple statements ----------

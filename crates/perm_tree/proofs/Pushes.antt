@@ -28,7 +28,11 @@ pub all_more : (n n' : ℕ) (is : List ℕ) → n ≤ n' → AllBelow n is → A
 all_more n n' [] le b = tt
 all_more n n' (i ∷ is) le b = (omega (arith, b.0), all_more n n' is le b.1)
 
-arg_more : (n n' : ℕ) (a : Arg) → n ≤ n' → ArgPlaced n a → ArgPlaced n' a
+pub all_append : (n : ℕ) (xs ys : List ℕ) → AllBelow n xs → AllBelow n ys → AllBelow n (xs ++ ys)
+all_append n [] ys b c = c
+all_append n (x ∷ xs) ys b c = (b.0, all_append n xs ys b.1 c)
+
+pub arg_more : (n n' : ℕ) (a : Arg) → n ≤ n' → ArgPlaced n a → ArgPlaced n' a
 arg_more n n' (Plain e) le b = omega arith
 arg_more n n' (Consume y) le b = tt
 

@@ -2,6 +2,7 @@
 use Rattle.std.proofs.Common.{◌≡◌, ◌≢◌, ℕ, zero, suc, ◌+◌, ◌<◌, Bool, true, false, List, [], ◌∷◌, ◌++◌, Option, Some, None, refl, sym, ap, subst, arith, ◌∙◌, eq-eqb, ne_eqb, add-zero}
 use Rattle.std.specs.Prelude.{◌&&◌, slice_get, map, cond, find}
 use Rattle.std.proofs.lemmas.List.Folds.{find_at}
+use Rattle.std.proofs.lemmas.Bool.{and_parts}
 use Rattle.perm_tree.specs.declared.ast.ClassDecl.{ClassDecl}
 use Rattle.perm_tree.specs.declared.ast.FieldDecl.{FieldDecl}
 use Rattle.perm_tree.specs.declared.ast.Method.{Method}
@@ -164,10 +165,6 @@ IsResolved-run u is = by_method (names_refusal-accepted (unmentioned p) is.accep
     by_method : (d : Method) × (main_run p ≡ Some d) × (is_good_run d ≡ true) → HasRun u
     by_method (d, e, good) = by_class d good (run-class p (find (is_class_word p main_word) p.classes) d e)
 
-both-true : (a b : Bool) → a && b ≡ true → (a ≡ true) × (b ≡ true)
-both-true true b e = (refl, e)
-both-true false b e = absurd (let no : ⊥ = cc e in no)
-
 long-is : (t : Ty) → is_long t ≡ true → t ≡ Long
 long-is Long e = refl
 long-is Boolean e = absurd (let no : ⊥ = cc e in no)
@@ -196,6 +193,6 @@ inputs-are (f ∷ g ∷ fs) e = absurd (let no : ⊥ = cc e in no)
 -- it takes the immutable input on a writable object, and gives a `long`
 pub good_run-types : (d : Method) → is_good_run d ≡ true → (d.result ≡ Long) × (map (λ f. f.ty) d.params ≡ Ref Immutable Array ∷ []) × (d.receiver ≡ Writable)
 good_run-types d good =
-    let first = both-true (is_long d.result) (takes_input d.params && is_writable d.receiver) good in
-    let rest = both-true (takes_input d.params) (is_writable d.receiver) first.1 in
+    let first = and_parts (is_long d.result) (takes_input d.params && is_writable d.receiver) good in
+    let rest = and_parts (takes_input d.params) (is_writable d.receiver) first.1 in
     (long-is d.result first.0, inputs-are d.params rest.0, writable-is d.receiver rest.1)

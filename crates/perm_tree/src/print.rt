@@ -1,10 +1,10 @@
 //! Programs written down anew, in their canonical text.
 
 ghost use Rattle.std.specs.Prelude.{◌≡◌, ◌<◌, ◌++◌, [], IfOk, OnOk, length, map};
-ghost use Rattle.perm_tree.specs.CanonicalText.{canonical, class_text};
-ghost use Rattle.perm_tree.specs.Members.{AllFormsPlaced, IsFormPlaced, form_member, form_of, form_tasks, forms_text};
+ghost use Rattle.perm_tree.specs.Printer.Programs.{canonical, class_text};
+ghost use Rattle.perm_tree.specs.Printer.Members.{AllFormsPlaced, IsFormPlaced, form_member, form_of, form_tasks, forms_text};
 ghost use Rattle.perm_tree.specs.Places.{ClassPlaced, IsPlaced};
-ghost use Rattle.perm_tree.specs.Printing.{onto};
+ghost use Rattle.perm_tree.specs.Printer.Parts.{onto};
 
 mod class;
 mod forms;

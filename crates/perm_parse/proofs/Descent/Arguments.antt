@@ -12,11 +12,12 @@ use Rattle.perm_parse.specs.declared.parser.Parser.{Parser}
 use Rattle.perm_parse.specs.Grammar.{ExprTree, ArgTree, Args}
 use Rattle.perm_parse.specs.States.{State, Purpose, ArgFor, ArgsPart, CallPart, arg_for_text, level_arg_for, level_call_part, level_state}
 use Rattle.perm_parse.specs.Machine.{step_arg, step_args, step_operand, finish_arg, behind, push_arg, close_call, op_of}
-use Rattle.perm_parse.specs.Reading.{IsNotNext, Expected, ExpectedVar, Variable, Leads, NoOp, IsClosed, ReadsExpr, ArgRead, ReadsArg, ArgsPartRead, ArgsRead, ReadsArgs}
+use Rattle.perm_parse.specs.Reading.{IsNotNext, TakesToken, TakesVar, NamesVar, Leads, NoOp, IsClosed, ReadsExpr, ArgRead, ReadsArg, ArgsPartRead, ArgsRead, ReadsArgs}
 use Rattle.perm_parse.proofs.OneAnswer.ExpressionRuns.{level-most}
 use Rattle.perm_parse.proofs.Descent.TokenSteps.{via, refused, here, takes, misses, takes-var, misses-var, same-next}
 use Rattle.perm_tree.specs.declared.ast.BinaryOp.{BinaryOp}
 use Rattle.perm_parse.specs.Grammar.{level}
+use Rattle.perm_parse.specs.Parses.{deepest}
 
 -- ---- plain arguments
 
@@ -48,12 +49,12 @@ plain-ok old new depth x h g closed = record {
 
 -- ---- consumed arguments
 
-pub consumed-missing : (old mid new : Parser) (depth : ℕ) (word : Token) (e : ParseError) → depth ≤ 100 → Expected kind.Consume old mid (Ok word) → ExpectedVar mid new (Err e) → ReadsArg depth old new (Err e)
+pub consumed-missing : (old mid new : Parser) (depth : ℕ) (word : Token) (e : ParseError) → depth ≤ deepest → TakesToken kind.Consume old mid (Ok word) → TakesVar mid new (Err e) → ReadsArg depth old new (Err e)
 consumed-missing old mid new depth word e le h miss = λ k lv.
     refused (takes old mid kind.Consume word (State.arg_due k) _ h refl (omega arith))
     (misses-var mid new e (λ rest. arg_for_text k (word ∷ rest)) (level_arg_for k) (λ name. State.arg_taken k (ArgTree.consumed word name)) miss)
 
-pub consumed-ok : (old mid mid2 new : Parser) (depth : ℕ) (word t : Token) (i : Ident) → depth ≤ 100 → Expected kind.Consume old mid (Ok word) → ExpectedVar mid mid2 (Ok t) → Variable t mid2 new (Ok i) → ArgRead depth old new (argument.Consume i)
+pub consumed-ok : (old mid mid2 new : Parser) (depth : ℕ) (word t : Token) (i : Ident) → depth ≤ deepest → TakesToken kind.Consume old mid (Ok word) → TakesVar mid mid2 (Ok t) → NamesVar t mid2 new (Ok i) → ArgRead depth old new (argument.Consume i)
 consumed-ok old mid mid2 new depth word t i le h g v = record {
   tree = ArgTree.consumed word t;
   is = ap argument.Consume (v.0 ∙ rw (g.2.text, h.2.text, g.2.program, h.2.program) refl);
@@ -68,7 +69,7 @@ consumed-ok old mid mid2 new depth word t i le h g v = record {
 close-level : (c : CallPart) (list : Args) (t : Token) → level_state (close_call c list t) ≤ level_call_part c
 close-level (CallPart.call_part k recv dot name opening) list t = omega arith
 
-pub args-none : (old new : Parser) (depth : ℕ) (t : Token) (list : List Arg) → depth ≤ 100 → Expected kind.CloseParen old new (Ok t) → list ≡ [] → ArgsRead depth old new list
+pub args-none : (old new : Parser) (depth : ℕ) (t : Token) (list : List Arg) → depth ≤ deepest → TakesToken kind.CloseParen old new (Ok t) → list ≡ [] → ArgsRead depth old new list
 args-none old new depth t list le h is = record {
   tree = Args.no_args;
   closing = t;
@@ -96,12 +97,12 @@ first-ok old new depth a list h g is = record {
   leads = λ c lv. via (as-first old c h) (g.leads (ArgFor.to_pass c ArgsPart.no_arg_yet) lv);
 }
 
-pub more-err : (old p mid new : Parser) (depth : ℕ) (list : List Arg) (comma : Token) (e : ParseError) → depth ≤ 100 → ArgsPartRead depth old p list → Expected kind.Comma p mid (Ok comma) → ReadsArg depth mid new (Err e) → ReadsArgs depth old new (Err e)
+pub more-err : (old p mid new : Parser) (depth : ℕ) (list : List Arg) (comma : Token) (e : ParseError) → depth ≤ deepest → ArgsPartRead depth old p list → TakesToken kind.Comma p mid (Ok comma) → ReadsArg depth mid new (Err e) → ReadsArgs depth old new (Err e)
 more-err old p mid new depth list comma e le g h r = λ c lv.
     refused (via (g.leads c lv) (takes p mid kind.Comma comma (State.arg_taken (ArgFor.to_pass c g.part) g.last) (State.arg_due (ArgFor.to_pass c (ArgsPart.behind_arg (push_arg g.part g.last) comma))) h refl (omega arith)))
     (r (ArgFor.to_pass c (ArgsPart.behind_arg (push_arg g.part g.last) comma)) lv)
 
-pub more-ok : (old p mid new : Parser) (depth : ℕ) (list more : List Arg) (a : Arg) (comma : Token) → depth ≤ 100 → p.text ≡ old.text → ArgsPartRead depth old p list → Expected kind.Comma p mid (Ok comma) → ReadsArg depth mid new (Ok a) → more ≡ list ++ a ∷ [] →
+pub more-ok : (old p mid new : Parser) (depth : ℕ) (list more : List Arg) (a : Arg) (comma : Token) → depth ≤ deepest → p.text ≡ old.text → ArgsPartRead depth old p list → TakesToken kind.Comma p mid (Ok comma) → ReadsArg depth mid new (Ok a) → more ≡ list ++ a ∷ [] →
     ArgsPartRead depth old new more
 more-ok old p mid new depth list more a comma le text g h r is = record {
   part = ArgsPart.behind_arg (push_arg g.part g.last) comma;
@@ -119,12 +120,12 @@ neither c part a t kind.Comma h g = absurd (h refl)
 neither c part a t kind.CloseParen h g = absurd (g refl)
 neither c part a t _ h g = refl
 
-pub end-err : (old p new : Parser) (depth : ℕ) (list : List Arg) (e : ParseError) → ArgsPartRead depth old p list → IsNotNext kind.Comma p → Expected kind.CloseParen p new (Err e) → ReadsArgs depth old new (Err e)
+pub end-err : (old p new : Parser) (depth : ℕ) (list : List Arg) (e : ParseError) → ArgsPartRead depth old p list → IsNotNext kind.Comma p → TakesToken kind.CloseParen p new (Err e) → ReadsArgs depth old new (Err e)
 end-err old p new depth list e g no_comma miss = λ c lv.
     refused (g.leads c lv)
     (misses p new kind.CloseParen e (State.arg_taken (ArgFor.to_pass c g.part) g.last) miss (record { others = λ t n h. neither c g.part g.last t t.kind (no_comma t n) h; ends = refl }))
 
-pub end-ok : (old p new : Parser) (depth : ℕ) (list : List Arg) (t : Token) → depth ≤ 100 → ArgsPartRead depth old p list → Expected kind.CloseParen p new (Ok t) → ArgsRead depth old new list
+pub end-ok : (old p new : Parser) (depth : ℕ) (list : List Arg) (t : Token) → depth ≤ deepest → ArgsPartRead depth old p list → TakesToken kind.CloseParen p new (Ok t) → ArgsRead depth old new list
 end-ok old p new depth list t le g h = record {
   tree = Args.args (push_arg g.part g.last);
   closing = t;

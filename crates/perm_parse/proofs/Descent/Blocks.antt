@@ -1,5 +1,6 @@
 -- The arms of the descent through lists of statements and blocks: what each does to the reading that is left.
 use Rattle.std.proofs.Common.{◌≡◌, ℕ, ◌+◌, ◌≤◌, ◌<◌, List, [], ◌∷◌, ◌++◌, false, Some, None, Ok, Err, refl, ◌∙◌, arith}
+use Rattle.perm_tree.proofs.Pushes.{all_more, all_append}
 use Rattle.perm_tree.specs.Places.{AllBelow}
 use Rattle.perm_tree.specs.declared.errors.ParseError.{ParseError}
 use Rattle.perm_tree.specs.declared.tokens.Token.{Token}
@@ -8,8 +9,9 @@ use Rattle.perm_tree.specs.declared.tokens.TokenKind.TheVariants as kind
 use Rattle.perm_parse.specs.declared.parser.Parser.{Parser}
 use Rattle.perm_parse.specs.Grammar.{BlockTree, Stmts}
 use Rattle.perm_parse.specs.States.{State, BodyPart, Lead, Open, Outer, level_outer, level_state}
-use Rattle.perm_parse.specs.Machine.{closed, enter, gives, step_listing}
-use Rattle.perm_parse.specs.Reading.{IsEnded, Opened, Expected, Leads, Closes, begins_stmt, StmtRead, ReadsStmt, StmtsRead, ReadsStmts, BlockRead, ReadsBlock}
+use Rattle.perm_parse.specs.Machine.{after_block, enter, gives, step_listing}
+use Rattle.perm_parse.specs.Reading.{IsNoStmtNext, OpensLevel, TakesToken, Leads, Closes, begins_stmt, StmtRead, ReadsStmt, StmtsRead, ReadsStmts, BlockRead, ReadsBlock}
+use Rattle.perm_parse.specs.Parses.{deepest}
 use Rattle.perm_parse.proofs.Descent.TokenSteps.{via, refused, takes, misses}
 use Rattle.perm_parse.proofs.Descent.Types.{opened-or}
 
@@ -30,8 +32,7 @@ stmts-more old p new depth n list more text g r is = record {
 }
 
 pub below-more : (n m : ℕ) (list : List ℕ) (x : ℕ) → n ≤ m → AllBelow n list → x < m → AllBelow m (list ++ x ∷ [])
-below-more n m [] x le below lt = (lt, tt)
-below-more n m (y ∷ list) x le below lt = (omega (arith, below.0), below-more n m list x le below.1 lt)
+below-more n m list x le below lt = all_append m list (x ∷ []) (all_more n m list le below) (lt, tt)
 
 -- ---- what ends them
 
@@ -54,7 +55,7 @@ body-closes d c t kind.Return h g = absurd (g refl)
 body-closes d c t _ h g = refl
 
 -- in a block of a statement, where another token isn't the brace, and isn't the `give` of a recover
-inside-closes : (u : Outer) (b : Stmts) (lead : Lead) (opening : Token) (c : Stmts) (t : Token) (other : TokenKind) → begins_stmt other ≡ false → (other ≡ kind.CloseBrace → closed u b lead (BlockTree.block opening c t) ≡ None) →
+inside-closes : (u : Outer) (b : Stmts) (lead : Lead) (opening : Token) (c : Stmts) (t : Token) (other : TokenKind) → begins_stmt other ≡ false → (other ≡ kind.CloseBrace → after_block u b lead (BlockTree.block opening c t) ≡ None) →
     (other ≡ kind.Give → gives u b lead opening c t ≡ None) → step_listing (Open.at (Outer.inside u b lead opening) c) t other ≡ None
 inside-closes u b lead opening c t kind.Name h g k = absurd (cc)
 inside-closes u b lead opening c t kind.This h g k = absurd (cc)
@@ -85,7 +86,7 @@ block-closes : (u : Outer) (b : Stmts) (lead : Lead) (opening : Token) (c : Stmt
     step_listing (Open.at (Outer.inside u b lead opening) c) t other ≡ None
 block-closes u b lead opening c next t other closes h g = inside-closes u b lead opening c t other h (λ e. absurd (g e)) (λ e. no-give u b lead opening c t next closes)
 
-pub recover-closes : (u : Outer) (b : Stmts) (lead : Lead) (opening : Token) (c : Stmts) (t : Token) (other : TokenKind) → ((a : BlockTree) → closed u b lead a ≡ None) → begins_stmt other ≡ false → (other ≡ kind.Give → ⊥) →
+pub recover-closes : (u : Outer) (b : Stmts) (lead : Lead) (opening : Token) (c : Stmts) (t : Token) (other : TokenKind) → ((a : BlockTree) → after_block u b lead a ≡ None) → begins_stmt other ≡ false → (other ≡ kind.Give → ⊥) →
     step_listing (Open.at (Outer.inside u b lead opening) c) t other ≡ None
 recover-closes u b lead opening c t other unclosed h g = inside-closes u b lead opening c t other h (λ e. unclosed (BlockTree.block opening c t)) (λ e. absurd (g e))
 
@@ -94,32 +95,32 @@ recover-closes u b lead opening c t other unclosed h g = inside-closes u b lead 
 same-level : (r q : State) → Some r ≡ Some q → level_state q ≡ level_state r
 same-level r q h = cc
 
-closed-level : (u : Outer) (b : Stmts) (lead : Lead) (a : BlockTree) (q : State) → closed u b lead a ≡ Some q → level_state q ≡ level_outer u
-closed-level u b (Lead.then_lead word paren e closing) a q h = same-level _ q h
-closed-level u b (Lead.else_lead word paren e closing c otherwise) a q h = same-level _ q h
-closed-level u b (Lead.while_lead word paren e closing) a q h = same-level _ q h
-closed-level u b (Lead.left_lead word) a q h = same-level _ q h
-closed-level u b (Lead.right_lead word c) a q h = same-level _ q h
-closed-level u b (Lead.recover_lead target equals word) a q h = absurd (let r : ⊥ = cc in r)
+after_block-level : (u : Outer) (b : Stmts) (lead : Lead) (a : BlockTree) (q : State) → after_block u b lead a ≡ Some q → level_state q ≡ level_outer u
+after_block-level u b (Lead.then_lead word paren e closing) a q h = same-level _ q h
+after_block-level u b (Lead.else_lead word paren e closing c otherwise) a q h = same-level _ q h
+after_block-level u b (Lead.while_lead word paren e closing) a q h = same-level _ q h
+after_block-level u b (Lead.left_lead word) a q h = same-level _ q h
+after_block-level u b (Lead.right_lead word c) a q h = same-level _ q h
+after_block-level u b (Lead.recover_lead target equals word) a q h = absurd (let r : ⊥ = cc in r)
 
-pub block-opens : (old p1 : Parser) (depth : ℕ) (opening : Token) (u : Outer) (b : Stmts) (lead : Lead) → level_outer u ≡ depth → Opened kind.OpenBrace depth old p1 (Ok opening) →
+pub block-opens : (old p1 : Parser) (depth : ℕ) (opening : Token) (u : Outer) (b : Stmts) (lead : Lead) → level_outer u ≡ depth → OpensLevel kind.OpenBrace depth old p1 (Ok opening) →
     Leads old (enter (Open.at u b) lead) p1 (State.listing (Open.at (Outer.inside u b lead opening) Stmts.no_stmts))
 block-opens old p1 depth opening u b lead lv o = takes old p1 kind.OpenBrace opening (enter (Open.at u b) lead) (State.listing (Open.at (Outer.inside u b lead opening) Stmts.no_stmts)) (o.0, o.1, o.2) refl (omega (arith, o.3))
 
-pub block-not-opened : (old new : Parser) (depth : ℕ) (e : ParseError) → Opened kind.OpenBrace depth old new (Err e) → ReadsBlock depth old new (Err e)
+pub block-not-opened : (old new : Parser) (depth : ℕ) (e : ParseError) → OpensLevel kind.OpenBrace depth old new (Err e) → ReadsBlock depth old new (Err e)
 block-not-opened old new depth e o = λ u b lead next lv closes. opened-or old new kind.OpenBrace depth _ _ _ e (λ t. omega arith) (λ t. refl) o
 
-pub block-stmts : (old p1 new : Parser) (depth : ℕ) (opening : Token) (e : ParseError) → Opened kind.OpenBrace depth old p1 (Ok opening) → ReadsStmts (depth + 1) p1 new (Err e) → ReadsBlock depth old new (Err e)
+pub block-stmts : (old p1 new : Parser) (depth : ℕ) (opening : Token) (e : ParseError) → OpensLevel kind.OpenBrace depth old p1 (Ok opening) → ReadsStmts (depth + 1) p1 new (Err e) → ReadsBlock depth old new (Err e)
 block-stmts old p1 new depth opening e o r = λ u b lead next lv closes. refused (block-opens old p1 depth opening u b lead lv o) (r (Outer.inside u b lead opening) (omega arith))
 
-pub block-not-closed : (old p1 p2 new : Parser) (depth : ℕ) (opening : Token) (list : List ℕ) (e : ParseError) → Opened kind.OpenBrace depth old p1 (Ok opening) → ReadsStmts (depth + 1) p1 p2 (Ok list) → IsEnded p2 → Expected kind.CloseBrace p2 new (Err e) →
+pub block-not-closed : (old p1 p2 new : Parser) (depth : ℕ) (opening : Token) (list : List ℕ) (e : ParseError) → OpensLevel kind.OpenBrace depth old p1 (Ok opening) → ReadsStmts (depth + 1) p1 p2 (Ok list) → IsNoStmtNext p2 → TakesToken kind.CloseBrace p2 new (Err e) →
     ReadsBlock depth old new (Err e)
 block-not-closed old p1 p2 new depth opening list e o g ended miss = λ u b lead next lv closes.
     refused (via (block-opens old p1 depth opening u b lead lv o) (g.leads (Outer.inside u b lead opening) (omega arith)))
     (misses p2 new kind.CloseBrace e (State.listing (Open.at (Outer.inside u b lead opening) g.tree)) miss
     (record { others = λ t n other. block-closes u b lead opening g.tree next t t.kind closes (ended t n) other; ends = refl }))
 
-pub block-ok : (old p1 p2 new : Parser) (depth : ℕ) (opening closing : Token) (list : List ℕ) → depth ≤ 100 → Opened kind.OpenBrace depth old p1 (Ok opening) → ReadsStmts (depth + 1) p1 p2 (Ok list) → Expected kind.CloseBrace p2 new (Ok closing) →
+pub block-ok : (old p1 p2 new : Parser) (depth : ℕ) (opening closing : Token) (list : List ℕ) → depth ≤ deepest → OpensLevel kind.OpenBrace depth old p1 (Ok opening) → ReadsStmts (depth + 1) p1 p2 (Ok list) → TakesToken kind.CloseBrace p2 new (Ok closing) →
     BlockRead depth old new (record { block = record { stmts = list }; closing = closing })
 block-ok old p1 p2 new depth opening closing list le o g h = record {
   tree = BlockTree.block opening g.tree closing;
@@ -130,5 +131,5 @@ block-ok old p1 p2 new depth opening closing list le o g h = record {
       via (block-opens old p1 depth opening u b lead lv o)
       (via (g.leads (Outer.inside u b lead opening) (omega arith))
       (takes p2 new kind.CloseBrace closing (State.listing (Open.at (Outer.inside u b lead opening) g.tree)) (next (BlockTree.block opening g.tree closing)) h (closes (BlockTree.block opening g.tree closing))
-      (omega (arith, closed-level u b lead (BlockTree.block opening g.tree closing) (next (BlockTree.block opening g.tree closing)) (closes (BlockTree.block opening g.tree closing))))));
+      (omega (arith, after_block-level u b lead (BlockTree.block opening g.tree closing) (next (BlockTree.block opening g.tree closing)) (closes (BlockTree.block opening g.tree closing))))));
 }

@@ -3,7 +3,7 @@ use Rattle.std.proofs.Common.{◌≡◌, ℕ, ◌<◌, ◌≤◌, ◌⊎◌, inl
 use Rattle.std.specs.List.{slice_get}
 use Rattle.std.specs.Result.{OnErr, OnOk}
 use Rattle.std.proofs.lemmas.Option.{slice_get_cases}
-use Rattle.perm_tree.proofs.Pushes.{all_more, get_push}
+use Rattle.perm_tree.proofs.Pushes.{all_more, arg_more, get_push}
 use Rattle.perm_tree.specs.Places.{ArgPlaced, ClassPlaced, MethodPlaced}
 use Rattle.perm_tree.specs.declared.ast.Arg.{Arg}
 use Rattle.perm_tree.specs.declared.ast.Arg.TheVariants.{Expr as Plain, Consume}
@@ -20,21 +20,17 @@ use Rattle.perm_parse.specs.declared.parser.Parser.{Parser}
 use Rattle.perm_parse.specs.Grammar.{TypeTree, MemberTree, Members, Classes}
 use Rattle.perm_parse.specs.States.{State, TypeFor, ClassPart}
 use Rattle.perm_parse.specs.Machine.{step_type, step_classes, step_in_class, step_member_named, end_field}
-use Rattle.perm_parse.specs.Reading.{IsNotNext, Expected, Opened, Named, Leads, Refuses}
-use Rattle.perm_parse.specs.ReadingMembers.{ReadsDecl, ReadsMethod, MemberRead, ReadsMember, MembersPartRead, MembersRead, ReadsMembers, PushedClass, ReadsClass}
+use Rattle.perm_parse.specs.Reading.{IsNotNext, TakesToken, OpensLevel, NamesToken, Leads, Refuses}
+use Rattle.perm_parse.specs.ReadingMembers.{ReadsDecl, ReadsMethod, MemberRead, ReadsMember, MembersPartRead, MembersRead, ReadsMembers, PushesClass, ReadsClass}
 use Rattle.perm_parse.proofs.Descent.Types.{opened-or}
 use Rattle.perm_parse.proofs.Descent.TokenSteps.{dead, here, only-expects, via, refused, no-memory, takes, misses, same-next}
 
 -- ---- places
 
-back-more : (n m : ℕ) (a : Arg) → n ≤ m → ArgPlaced n a → ArgPlaced m a
-back-more n m (Plain e) le b = omega arith
-back-more n m (Consume y) le b = tt
-
 class-same : (n n' m m' : ℕ) (c c' : ClassDecl) → n ≤ n' → m ≤ m' → c'.methods ≡ c.methods → ClassPlaced n m c → ClassPlaced n' m' c'
 class-same n n' m m' c c' le le' same placed = λ k d e.
     let h = placed k d (subst (λ (x : List Method). slice_get x k ≡ Some d) same e) in
-    (all_more m m' d.body.stmts le' h.0, back-more n n' d.back le h.1)
+    (all_more m m' d.body.stmts le' h.0, arg_more n n' d.back le h.1)
 
 class-more : (n n' m m' : ℕ) (c c' : ClassDecl) (d : Method) → n ≤ n' → m ≤ m' → c'.methods ≡ c.methods ++ d ∷ [] → ClassPlaced n m c → MethodPlaced n' m' d → ClassPlaced n' m' c'
 class-more n n' m m' c c' d le le' more placed new = λ k x e. pick k x (get_push c.methods d k x (subst (λ (y : List Method). slice_get y k ≡ Some x) more e))
@@ -103,13 +99,13 @@ others c ty name t kind.OpenParen h g = absurd (h refl)
 others c ty name t kind.Semicolon h g = absurd (g refl)
 others c ty name t _ h g = refl
 
-pub member-no-end : (old p1 new : Parser) (before after : ClassDecl) (head : FieldDecl) (e : ParseError) → IsNotNext kind.CloseBrace old → ReadsDecl 1 old p1 (Ok head) → IsNotNext kind.OpenParen p1 → Expected kind.Semicolon p1 new (Err e) → ReadsMember old new before after (Err e)
+pub member-no-end : (old p1 new : Parser) (before after : ClassDecl) (head : FieldDecl) (e : ParseError) → IsNotNext kind.CloseBrace old → ReadsDecl 1 old p1 (Ok head) → IsNotNext kind.OpenParen p1 → TakesToken kind.Semicolon p1 new (Err e) → ReadsMember old new before after (Err e)
 member-no-end old p1 new before after head e starts g no_paren miss = λ list word name opening members.
     let c = ClassPart.class_part list word name opening members in
     refused (via (as-member old c starts) (g.leads (TypeFor.to_member c) refl))
     (misses p1 new kind.Semicolon e (State.member_named c g.tree g.name) miss (record { others = λ t n h. others c g.tree g.name t t.kind (no_paren t n) h; ends = refl }))
 
-member-field : (old p1 new : Parser) (before after : ClassDecl) (head : FieldDecl) (end : Token) → IsNotNext kind.CloseBrace old → ReadsDecl 1 old p1 (Ok head) → Expected kind.Semicolon p1 new (Ok end) →
+member-field : (old p1 new : Parser) (before after : ClassDecl) (head : FieldDecl) (end : Token) → IsNotNext kind.CloseBrace old → ReadsDecl 1 old p1 (Ok head) → TakesToken kind.Semicolon p1 new (Ok end) →
     after.name ≡ before.name → after.fields ≡ before.fields ++ head ∷ [] → after.methods ≡ before.methods → MemberRead old new before after
 member-field old p1 new before after head end starts g h same fields methods = record {
   tree = MemberTree.field_member g.tree g.name end;
@@ -123,7 +119,7 @@ member-field old p1 new before after head end starts g h same fields methods = r
       (takes p1 new kind.Semicolon end (State.member_named c g.tree g.name) (end_field c g.tree g.name end) h refl (omega arith)));
 }
 
-pub field-added : (old p1 new : Parser) (before : ClassDecl) (fields : List FieldDecl) (head : FieldDecl) (end : Token) (r : Result (Unit {0}) ParseError) → IsNotNext kind.CloseBrace old → ReadsDecl 1 old p1 (Ok head) → Expected kind.Semicolon p1 new (Ok end) →
+pub field-added : (old p1 new : Parser) (before : ClassDecl) (fields : List FieldDecl) (head : FieldDecl) (end : Token) (r : Result (Unit {0}) ParseError) → IsNotNext kind.CloseBrace old → ReadsDecl 1 old p1 (Ok head) → TakesToken kind.Semicolon p1 new (Ok end) →
     OnOk r (fields ≡ before.fields ++ head ∷ []) → OnErr r ((r ≡ Err NoMemory) × (fields ≡ before.fields)) → ReadsMember old new before (record before { fields = fields }) r
 field-added old p1 new before fields head end r starts g h ok err =
     member-is old new before (record before { fields = fields }) r _ _ ok err (λ is. member-field old p1 new before (record before { fields = fields }) head end starts g h refl is refl)
@@ -139,7 +135,7 @@ members-more old p new class after text g r = record {
   leads = λ list word name opening. via (g.leads list word name opening) (r.leads list word name opening g.tree);
 }
 
-pub members-end : (old p new : Parser) (class : ClassDecl) (closing : Token) → MembersPartRead old p class → Expected kind.CloseBrace p new (Ok closing) → MembersRead old new class
+pub members-end : (old p new : Parser) (class : ClassDecl) (closing : Token) → MembersPartRead old p class → TakesToken kind.CloseBrace p new (Ok closing) → MembersRead old new class
 members-end old p new class closing g h = record {
   tree = g.tree;
   closing = closing;
@@ -159,7 +155,7 @@ no-class list t kind.Class h = absurd (h refl)
 no-class list t _ h = refl
 
 -- a token comes next, and it isn't the word of a class
-pub class-missing : (old new : Parser) (e : ParseError) → old.at < length old.tokens.now → Expected kind.Class old new (Err e) → ReadsClass old new (Err e)
+pub class-missing : (old new : Parser) (e : ParseError) → old.at < length old.tokens.now → TakesToken kind.Class old new (Err e) → ReadsClass old new (Err e)
 class-missing old new e lt miss = λ list. rw miss.0 (cases list (slice_get_cases old.tokens.now old.at).1)
   where
     cases : (list : Classes) → ((t : Token) × (old.at < length old.tokens.now) × (slice_get old.tokens.now old.at ≡ Some t) × (get_or old.tokens.now old.at t ≡ t)) ⊎ ((length old.tokens.now ≤ old.at) × (slice_get old.tokens.now old.at ≡ None)) →
@@ -167,35 +163,35 @@ class-missing old new e lt miss = λ list. rw miss.0 (cases list (slice_get_case
     cases list (inl h) = dead old h.0 (State.between_classes list) h.2 (no-class list h.0 h.0.kind (miss.1 h.0 h.2))
     cases list (inr h) = absurd (omega arith)
 
-pub class-no-name : (old p1 new : Parser) (word : Token) (e : ParseError) → Expected kind.Class old p1 (Ok word) → Expected kind.Name p1 new (Err e) → ReadsClass old new (Err e)
+pub class-no-name : (old p1 new : Parser) (word : Token) (e : ParseError) → TakesToken kind.Class old p1 (Ok word) → TakesToken kind.Name p1 new (Err e) → ReadsClass old new (Err e)
 class-no-name old p1 new word e h miss = λ list.
     refused (takes old p1 kind.Class word (State.between_classes list) _ h refl (omega arith)) (misses p1 new kind.Name e _ miss (only-expects p1 _ _ kind.Name _))
 
 -- up to behind the name
 pub record ClassPath (old p1 p2 p3 : Parser) (word name : Token) (i : Ident) : Type 0 where
-  pub begins : Expected kind.Class old p1 (Ok word)
-  pub name_next : Expected kind.Name p1 p2 (Ok name)
-  pub numbered : Named name p2 p3 (Ok i)
+  pub begins : TakesToken kind.Class old p1 (Ok word)
+  pub name_next : TakesToken kind.Name p1 p2 (Ok name)
+  pub numbered : NamesToken name p2 p3 (Ok i)
 
-pub class-not-opened : (old p1 p2 p3 new : Parser) (word name : Token) (i : Ident) (e : ParseError) → ClassPath old p1 p2 p3 word name i → Opened kind.OpenBrace 0 p3 new (Err e) → ReadsClass old new (Err e)
+pub class-not-opened : (old p1 p2 p3 new : Parser) (word name : Token) (i : Ident) (e : ParseError) → ClassPath old p1 p2 p3 word name i → OpensLevel kind.OpenBrace 0 p3 new (Err e) → ReadsClass old new (Err e)
 class-not-opened old p1 p2 p3 new word name i e h o = λ list.
     refused (via (takes old p1 kind.Class word (State.between_classes list) _ h.begins refl (omega arith)) (via (takes p1 p2 kind.Name name _ _ h.name_next refl (omega arith)) (here p2 p3 _ h.numbered.2)))
     (opened-or p3 new kind.OpenBrace 0 _ _ _ e (λ t. refl) (λ t. refl) o)
 
-class-opens : (old p1 p2 p3 p4 : Parser) (word name opening : Token) (i : Ident) (list : Classes) → ClassPath old p1 p2 p3 word name i → Opened kind.OpenBrace 0 p3 p4 (Ok opening) →
+class-opens : (old p1 p2 p3 p4 : Parser) (word name opening : Token) (i : Ident) (list : Classes) → ClassPath old p1 p2 p3 word name i → OpensLevel kind.OpenBrace 0 p3 p4 (Ok opening) →
     Leads old (State.between_classes list) p4 (State.in_class (ClassPart.class_part list word name opening Members.no_members))
 class-opens old p1 p2 p3 p4 word name opening i list h o =
     via (takes old p1 kind.Class word (State.between_classes list) _ h.begins refl (omega arith)) (via (takes p1 p2 kind.Name name _ _ h.name_next refl (omega arith)) (via (here p2 p3 _ h.numbered.2)
     (takes p3 p4 kind.OpenBrace opening _ (State.in_class (ClassPart.class_part list word name opening Members.no_members)) (o.0, o.1, o.2) refl (omega arith))))
 
-pub class-members : (old p1 p2 p3 p4 new : Parser) (word name opening : Token) (i : Ident) (e : ParseError) → ClassPath old p1 p2 p3 word name i → Opened kind.OpenBrace 0 p3 p4 (Ok opening) → ReadsMembers p4 new (Err e) → ReadsClass old new (Err e)
+pub class-members : (old p1 p2 p3 p4 new : Parser) (word name opening : Token) (i : Ident) (e : ParseError) → ClassPath old p1 p2 p3 word name i → OpensLevel kind.OpenBrace 0 p3 p4 (Ok opening) → ReadsMembers p4 new (Err e) → ReadsClass old new (Err e)
 class-members old p1 p2 p3 p4 new word name opening i e h o r = λ list. refused (class-opens old p1 p2 p3 p4 word name opening i list h o) (r list word name opening)
 
 class-is : (c : ClassDecl) (n : Ident) (f : List FieldDecl) (m : List Method) → c.name ≡ n → c.fields ≡ f → c.methods ≡ m → c ≡ record { name = n; fields = f; methods = m }
 class-is c n f m a b d = λ i. record { name = a i; fields = b i; methods = d i }
 
-pub class-added : (old p1 p2 p3 p4 p5 new : Parser) (word name opening : Token) (i : Ident) (class : ClassDecl) (r : Result (Unit {0}) ParseError) → ClassPath old p1 p2 p3 word name i → Opened kind.OpenBrace 0 p3 p4 (Ok opening) → ReadsMembers p4 p5 (Ok class) →
-    class.name ≡ i → PushedClass class p5 new r → ReadsClass old new r
+pub class-added : (old p1 p2 p3 p4 p5 new : Parser) (word name opening : Token) (i : Ident) (class : ClassDecl) (r : Result (Unit {0}) ParseError) → ClassPath old p1 p2 p3 word name i → OpensLevel kind.OpenBrace 0 p3 p4 (Ok opening) → ReadsMembers p4 p5 (Ok class) →
+    class.name ≡ i → PushesClass class p5 new r → ReadsClass old new r
 class-added old p1 p2 p3 p4 p5 new word name opening i class (Ok u) h o g same d =
     let n = h.numbered in
     let whole = class-is class i _ _ same g.fields g.methods in

@@ -11,7 +11,8 @@ use Rattle.perm_parse.specs.declared.parser.Parser.{Parser}
 use Rattle.perm_parse.specs.Meaning.{type_first}
 use Rattle.perm_parse.specs.States.{State, Open, TypeFor}
 use Rattle.perm_parse.specs.Machine.{step_listing, step_type}
-use Rattle.perm_parse.specs.Reading.{Next, BeginsType, IsNextType, Expected, Named, Leads, ReadsType, LocalRead, ReadsLocal}
+use Rattle.perm_parse.specs.Reading.{Next, BeginsType, IsNextType, TakesToken, NamesToken, Leads, ReadsType, LocalRead, ReadsLocal}
+use Rattle.perm_parse.specs.Parses.{deepest}
 use Rattle.perm_parse.proofs.Descent.TokenSteps.{via, refused, here, takes, misses, only-expects, same-next}
 use Rattle.perm_parse.proofs.Descent.Operands.{some-token}
 
@@ -40,10 +41,10 @@ type-missed p next n = absurd (let e : Some next.0 ≡ None = sym next.1.0 ∙ n
 pub local-no-type : (old new : Parser) (depth : ℕ) (e : ParseError) → IsNextType old → ReadsType depth old new (Err e) → ReadsLocal depth old new (Err e)
 local-no-type old new depth e next r = λ o lv. refused (as-local old o next) (r (TypeFor.to_local o) lv)
 
-pub local-no-name : (old p1 new : Parser) (depth : ℕ) (ty : Ty) (e : ParseError) → IsNextType old → ReadsType depth old p1 (Ok ty) → Expected kind.Name p1 new (Err e) → ReadsLocal depth old new (Err e)
+pub local-no-name : (old p1 new : Parser) (depth : ℕ) (ty : Ty) (e : ParseError) → IsNextType old → ReadsType depth old p1 (Ok ty) → TakesToken kind.Name p1 new (Err e) → ReadsLocal depth old new (Err e)
 local-no-name old p1 new depth ty e next g miss = λ o lv. refused (via (as-local old o next) (g.leads (TypeFor.to_local o) lv)) (misses p1 new kind.Name e _ miss (only-expects p1 _ _ kind.Name _))
 
-pub local-ok : (old p1 p2 new : Parser) (depth : ℕ) (ty : Ty) (first t : Token) (i : Ident) → depth ≤ 100 → IsNextType old → Next old first → p1.text ≡ old.text → ReadsType depth old p1 (Ok ty) → Expected kind.Name p1 p2 (Ok t) → Named t p2 new (Ok i) →
+pub local-ok : (old p1 p2 new : Parser) (depth : ℕ) (ty : Ty) (first t : Token) (i : Ident) → depth ≤ deepest → IsNextType old → Next old first → p1.text ≡ old.text → ReadsType depth old p1 (Ok ty) → TakesToken kind.Name p1 p2 (Ok t) → NamesToken t p2 new (Ok i) →
     LocalRead depth old new (record { ty = ty; name = i; first = first })
 local-ok old p1 p2 new depth ty first t i le next is text g h n = record {
   tree = g.tree;

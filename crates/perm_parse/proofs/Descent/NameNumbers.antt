@@ -7,7 +7,7 @@ use Rattle.std.proofs.lemmas.Cmp.{nat_list_eq_equiv}
 use Rattle.std.proofs.lemmas.Iterator.Adapters.{position_from-zero}
 use Rattle.std.proofs.lemmas.List.{map-append}
 use Rattle.indexmap.specs.IndexSet.{insert_key}
-use Rattle.perm_parse.specs.Tokens.{spelled}
+use Rattle.perm_parse.specs.Tokens.{spellings}
 
 -- what holds of the value of a call that succeeded
 pub ok-has : {A E : Type 0} {P : A → Type 0} (r : Result A E) → IsOk r → IfOk r P → (x : A) × P x
@@ -50,17 +50,17 @@ turned : (name : List ℕ) → has name ≡ is name
 turned name = λ i other. nat_list_eq_equiv.symm name other i
 
 -- a name stands at its number
-found-same : (name : List ℕ) (keys : List (Bor (List ℕ))) (names : List (List ℕ)) → spelled keys ≡ names → position (λ (k : Bor (List ℕ)). bytes_eq name k.now) keys ≡ position (λ (other : List ℕ). bytes_eq other name) names
+found-same : (name : List ℕ) (keys : List (Bor (List ℕ))) (names : List (List ℕ)) → spellings keys ≡ names → position (λ (k : Bor (List ℕ)). bytes_eq name k.now) keys ≡ position (λ (other : List ℕ). bytes_eq other name) names
 found-same name keys names indexed =
     position-map (λ (k : Bor (List ℕ)). k.now) (has name) keys ∙ ap (λ (l : List (List ℕ)). position (has name) l) indexed ∙ ap (λ (p : List ℕ → Bool). position p names) (turned name)
 
-pub known-is : (name : List ℕ) (keys : List (Bor (List ℕ))) (names : List (List ℕ)) (r : Option ℕ) → r ≡ position (λ (k : Bor (List ℕ)). bytes_eq name k.now) keys → spelled keys ≡ names → r ≡ position (λ (other : List ℕ). bytes_eq other name) names
+pub known-is : (name : List ℕ) (keys : List (Bor (List ℕ))) (names : List (List ℕ)) (r : Option ℕ) → r ≡ position (λ (k : Bor (List ℕ)). bytes_eq name k.now) keys → spellings keys ≡ names → r ≡ position (λ (other : List ℕ). bytes_eq other name) names
 known-is name keys names r h indexed = h ∙ found-same name keys names indexed
 
 -- a name that isn't known goes last in the set and in the program
-pub new-name : (k : Bor (List ℕ)) (keys room more : List (Bor (List ℕ))) (names : List (List ℕ)) → spelled keys ≡ names → position (λ (other : List ℕ). bytes_eq other k.now) names ≡ None → room ≡ keys → more ≡ insert_key (λ (a b : Bor (List ℕ)). bytes_eq a.now b.now) room k →
-    spelled more ≡ names ++ k.now ∷ []
+pub new-name : (k : Bor (List ℕ)) (keys room more : List (Bor (List ℕ))) (names : List (List ℕ)) → spellings keys ≡ names → position (λ (other : List ℕ). bytes_eq other k.now) names ≡ None → room ≡ keys → more ≡ insert_key (λ (a b : Bor (List ℕ)). bytes_eq a.now b.now) room k →
+    spellings more ≡ names ++ k.now ∷ []
 new-name k keys room more names indexed none same is =
     let out : list_any (λ (b : Bor (List ℕ)). bytes_eq k.now b.now) keys ≡ false = absent (λ (b : Bor (List ℕ)). bytes_eq k.now b.now) keys (found-same k.now keys names indexed ∙ none) in
-    ap spelled (is ∙ ap (λ (l : List (Bor (List ℕ))). insert_key (λ (a b : Bor (List ℕ)). bytes_eq a.now b.now) l k) same ∙ ap (λ (b : Bool). if b then keys else keys ++ k ∷ []) out)
+    ap spellings (is ∙ ap (λ (l : List (Bor (List ℕ))). insert_key (λ (a b : Bor (List ℕ)). bytes_eq a.now b.now) l k) same ∙ ap (λ (b : Bool). if b then keys else keys ++ k ∷ []) out)
     ∙ map-append (λ (b : Bor (List ℕ)). b.now) keys (k ∷ []) ∙ ap (λ (l : List (List ℕ)). l ++ k.now ∷ []) indexed

@@ -2,6 +2,7 @@
 use Rattle.std.proofs.Common.{◌≡◌, ℕ, ◌+◌, ◌-◌, ◌<◌, ◌≤◌, List, [], ◌∷◌, length, drop, Option, Some, None, Result, Ok, Err, Bool, true, false, refl, sym, ap, ◌∙◌, subst, arith, ◌==◌, cond}
 use Rattle.std.specs.List.{slice_get}
 use Rattle.std.proofs.lemmas.Bool.{le-leb, eqb-true}
+use Rattle.std.proofs.lemmas.Option.{same_Some}
 use Rattle.perm_tree.specs.Places.{Listing}
 use Rattle.perm_tree.specs.declared.ast.UnaryOp.{UnaryOp}
 use Rattle.perm_tree.specs.declared.ast.UnaryOp.TheVariants as unary_op
@@ -19,8 +20,9 @@ use Rattle.perm_parse.specs.Grammar.{ExprTree, Is, level, sign, unary_sign}
 use Rattle.perm_parse.specs.States.{State, Pending, Purpose, Room, level_pending, level_purpose, level_state}
 use Rattle.perm_parse.specs.Machine.{step_as, step_operand, finish, behind, op_of}
 use Rattle.perm_parse.specs.Meaning.{push_expr, expr_of}
-use Rattle.perm_parse.specs.Answers.{read_from, went}
-use Rattle.perm_parse.specs.Reading.{rest, From, Next, IsNext, IsAhead, IsHere, Expected, Opened, Pushed, Variable, Leads, Refuses, NoOp, IsClosed, ExprRead, ReadsExpr, of_level, operator_at}
+use Rattle.perm_parse.specs.Answers.{read_from, answer_after}
+use Rattle.perm_parse.specs.Reading.{rest, From, Next, IsNext, IsAhead, IsHere, TakesToken, OpensLevel, PushesExpr, NamesVar, Leads, Refuses, NoOp, IsClosed, ExprRead, ReadsExpr, of_level, operator_at}
+use Rattle.perm_parse.specs.Parses.{deepest}
 use Rattle.perm_parse.proofs.OneAnswer.ExpressionRuns.{level-positive, level-most, reduce-stays, op_of-sign}
 use Rattle.perm_parse.proofs.OneAnswer.Soundness.{op_of-is}
 use Rattle.perm_parse.proofs.Descent.TokenSteps.{Only, stepped, too-deep, via, refused, here, no-memory, takes, misses, drop-some, drop-none, dead, at-end}
@@ -32,7 +34,7 @@ level-below d (Pending.left a o t ∷ ps) = level-below d ps
 
 -- ---- operands of one token
 
-pub leaf : (old mid new : Parser) (depth : ℕ) (t : Token) (wanted : TokenKind) (tree : ExprTree) (e : Expr) (r : Result ℕ ParseError) → Next old t → Is wanted t → IsAhead old mid → Pushed e mid new r → depth ≤ 100 →
+pub leaf : (old mid new : Parser) (depth : ℕ) (t : Token) (wanted : TokenKind) (tree : ExprTree) (e : Expr) (r : Result ℕ ParseError) → Next old t → Is wanted t → IsAhead old mid → PushesExpr e mid new r → depth ≤ deepest →
     ((ps : List Pending) (k : Purpose) → step_as (State.operand ps k) t wanted ≡ Some (State.after tree ps k)) → ((text : List ℕ) (s : Listing) → expr_of text tree s ≡ push_expr e s) → ReadsExpr 0 depth old new r
 leaf old mid new depth t wanted tree e (Ok n) next is a d le h m = record {
   tree = tree;
@@ -44,7 +46,7 @@ leaf old mid new depth t wanted tree e (Ok n) next is a d le h m = record {
 }
 leaf old mid new depth t wanted tree e (Err x) next is a d le h m = λ ps k lv room. no-memory old (State.operand ps k) x d
 
-pub variable : (old mid named new : Parser) (depth : ℕ) (t : Token) (wanted : TokenKind) (i : Ident) (r : Result ℕ ParseError) → Next old t → Is wanted t → IsAhead old mid → Variable t mid named (Ok i) → Pushed (node.Var i) named new r → depth ≤ 100 →
+pub variable : (old mid named new : Parser) (depth : ℕ) (t : Token) (wanted : TokenKind) (i : Ident) (r : Result ℕ ParseError) → Next old t → Is wanted t → IsAhead old mid → NamesVar t mid named (Ok i) → PushesExpr (node.Var i) named new r → depth ≤ deepest →
     ((ps : List Pending) (k : Purpose) → step_as (State.operand ps k) t wanted ≡ Some (State.after (ExprTree.variable t) ps k)) → ReadsExpr 0 depth old new r
 variable old mid named new depth t wanted i (Ok n) next is a v d le h = record {
   tree = ExprTree.variable t;
@@ -63,8 +65,8 @@ prefixed-step unary_op.Minus t ps k = refl
 prefixed-step unary_op.Not t ps k = refl
 
 -- a bracket or an operator that isn't opened where it comes next
-pub not-opened : (old new : Parser) (wanted : TokenKind) (depth : ℕ) (q : State) (e : ParseError) → IsNext wanted old → Opened wanted depth old new (Err e) →
-    ((t : Token) → depth ≡ 100 → (r : State) × ((step_as q t wanted ≡ Some r) × (100 < level_state r))) → Refuses old q e
+pub not-opened : (old new : Parser) (wanted : TokenKind) (depth : ℕ) (q : State) (e : ParseError) → IsNext wanted old → OpensLevel wanted depth old new (Err e) →
+    ((t : Token) → depth ≡ deepest → (r : State) × ((step_as q t wanted ≡ Some r) × (deepest < level_state r))) → Refuses old q e
 not-opened old new wanted depth q (Unexpected i) next h goes = absurd (h.1 next.0 next.1.0 next.1.1)
 not-opened old new wanted depth q (TooDeep i) next h goes =
     let t = h.1.0 in
@@ -72,15 +74,15 @@ not-opened old new wanted depth q (TooDeep i) next h goes =
     rw h.0 (too-deep old t q g.0 h.1.1.0 (ap (λ (x : TokenKind). step_as q t x) h.1.1.1 ∙ g.1.0) g.1.1)
 not-opened old new wanted depth q NoMemory next h goes = absurd h
 
-pub prefixed-refused : (old new : Parser) (depth : ℕ) (o : UnaryOp) (e : ParseError) → IsNext (unary_sign o) old → Opened (unary_sign o) depth old new (Err e) → ReadsExpr 0 depth old new (Err e)
+pub prefixed-refused : (old new : Parser) (depth : ℕ) (o : UnaryOp) (e : ParseError) → IsNext (unary_sign o) old → OpensLevel (unary_sign o) depth old new (Err e) → ReadsExpr 0 depth old new (Err e)
 prefixed-refused old new depth o e next h = λ ps k lv room.
     not-opened old new (unary_sign o) depth (State.operand ps k) e next h (λ t deep. (State.operand (Pending.before o t ∷ ps) k, (prefixed-step o t ps k, omega arith)))
 
-prefixed-opens : (old mid : Parser) (depth : ℕ) (o : UnaryOp) (t : Token) (ps : List Pending) (k : Purpose) → Opened (unary_sign o) depth old mid (Ok t) → level_pending (level_purpose k) ps ≡ depth →
+prefixed-opens : (old mid : Parser) (depth : ℕ) (o : UnaryOp) (t : Token) (ps : List Pending) (k : Purpose) → OpensLevel (unary_sign o) depth old mid (Ok t) → level_pending (level_purpose k) ps ≡ depth →
     Leads old (State.operand ps k) mid (State.operand (Pending.before o t ∷ ps) k)
 prefixed-opens old mid depth o t ps k h lv = stepped old mid t (State.operand ps k) (State.operand (Pending.before o t ∷ ps) k) h.0 h.2 (ap (λ (x : TokenKind). step_as (State.operand ps k) t x) h.1 ∙ prefixed-step o t ps k) (omega (arith, h.3))
 
-pub prefixed-err : (old mid new : Parser) (depth : ℕ) (o : UnaryOp) (t : Token) (e : ParseError) → Opened (unary_sign o) depth old mid (Ok t) → ReadsExpr 0 (depth + 1) mid new (Err e) → ReadsExpr 0 depth old new (Err e)
+pub prefixed-err : (old mid new : Parser) (depth : ℕ) (o : UnaryOp) (t : Token) (e : ParseError) → OpensLevel (unary_sign o) depth old mid (Ok t) → ReadsExpr 0 (depth + 1) mid new (Err e) → ReadsExpr 0 depth old new (Err e)
 prefixed-err old mid new depth o t e h r = λ ps k lv room. refused (prefixed-opens old mid depth o t ps k h lv) (r (Pending.before o t ∷ ps) k (omega arith) refl)
 
 -- an operand takes the unary operator before it
@@ -91,11 +93,11 @@ settle-unary p e o t ps k = record { same = over (rest p) p.at }
     over [] n = refl
     over (c ∷ ts) n = at (op_of c.kind)
       where
-        at : (x : Option BinaryOp) → went n (behind e (Pending.before o t ∷ ps) k c c.kind x) (λ r. read_from ts r (n + 1)) ≡ went n (behind (ExprTree.unary o t e) ps k c c.kind x) (λ r. read_from ts r (n + 1))
+        at : (x : Option BinaryOp) → answer_after n (behind e (Pending.before o t ∷ ps) k c c.kind x) (λ r. read_from ts r (n + 1)) ≡ answer_after n (behind (ExprTree.unary o t e) ps k c c.kind x) (λ r. read_from ts r (n + 1))
         at None = refl
         at (Some y) = refl
 
-pub prefixed-ok : (old mid mid2 new : Parser) (depth : ℕ) (o : UnaryOp) (t : Token) (x : ℕ) (r : Result ℕ ParseError) → Opened (unary_sign o) depth old mid (Ok t) → ReadsExpr 0 (depth + 1) mid mid2 (Ok x) → Pushed (node.Unary o x) mid2 new r → ReadsExpr 0 depth old new r
+pub prefixed-ok : (old mid mid2 new : Parser) (depth : ℕ) (o : UnaryOp) (t : Token) (x : ℕ) (r : Result ℕ ParseError) → OpensLevel (unary_sign o) depth old mid (Ok t) → ReadsExpr 0 (depth + 1) mid mid2 (Ok x) → PushesExpr (node.Unary o x) mid2 new r → ReadsExpr 0 depth old new r
 prefixed-ok old mid mid2 new depth o t x (Ok n) h g d = record {
   tree = ExprTree.unary o t g.tree;
   place = d.0 ∙ rw (g.program, h.2.program, h.2.text) refl;
@@ -108,14 +110,14 @@ prefixed-ok old mid mid2 new depth o t x (Err e) h g d = λ ps k lv room. no-mem
 
 -- ---- parentheses
 
-pub parens-refused : (old new : Parser) (depth : ℕ) (e : ParseError) → IsNext kind.OpenParen old → Opened kind.OpenParen depth old new (Err e) → ReadsExpr 0 depth old new (Err e)
+pub parens-refused : (old new : Parser) (depth : ℕ) (e : ParseError) → IsNext kind.OpenParen old → OpensLevel kind.OpenParen depth old new (Err e) → ReadsExpr 0 depth old new (Err e)
 parens-refused old new depth e next h = λ ps k lv room.
     not-opened old new kind.OpenParen depth (State.operand ps k) e next h (λ t deep. (State.operand [] (Purpose.inner ps k t), (refl, omega arith)))
 
-parens-opens : (old mid : Parser) (depth : ℕ) (t : Token) (ps : List Pending) (k : Purpose) → Opened kind.OpenParen depth old mid (Ok t) → level_pending (level_purpose k) ps ≡ depth → Leads old (State.operand ps k) mid (State.operand [] (Purpose.inner ps k t))
+parens-opens : (old mid : Parser) (depth : ℕ) (t : Token) (ps : List Pending) (k : Purpose) → OpensLevel kind.OpenParen depth old mid (Ok t) → level_pending (level_purpose k) ps ≡ depth → Leads old (State.operand ps k) mid (State.operand [] (Purpose.inner ps k t))
 parens-opens old mid depth t ps k h lv = stepped old mid t (State.operand ps k) (State.operand [] (Purpose.inner ps k t)) h.0 h.2 (ap (λ (x : TokenKind). step_as (State.operand ps k) t x) h.1) (omega (arith, h.3))
 
-pub parens-err : (old mid new : Parser) (depth : ℕ) (t : Token) (e : ParseError) → Opened kind.OpenParen depth old mid (Ok t) → ReadsExpr 6 (depth + 1) mid new (Err e) → ReadsExpr 0 depth old new (Err e)
+pub parens-err : (old mid new : Parser) (depth : ℕ) (t : Token) (e : ParseError) → OpensLevel kind.OpenParen depth old mid (Ok t) → ReadsExpr 6 (depth + 1) mid new (Err e) → ReadsExpr 0 depth old new (Err e)
 parens-err old mid new depth t e h r = λ ps k lv room. refused (parens-opens old mid depth t ps k h lv) (r [] (Purpose.inner ps k t) (omega arith) tt)
 
 -- behind a whole expression, where only what closes it may come
@@ -133,13 +135,13 @@ inner-closes : (ps : List Pending) (k : Purpose) (opening : Token) (e : ExprTree
 inner-closes ps k opening e t kind.CloseParen h = absurd (h refl)
 inner-closes ps k opening e t _ h = refl
 
-pub parens-missing : (old mid mid2 new : Parser) (depth : ℕ) (t : Token) (x : ℕ) (e : ParseError) → Opened kind.OpenParen depth old mid (Ok t) → ReadsExpr 6 (depth + 1) mid mid2 (Ok x) → IsClosed 6 mid2 → Expected kind.CloseParen mid2 new (Err e) →
+pub parens-missing : (old mid mid2 new : Parser) (depth : ℕ) (t : Token) (x : ℕ) (e : ParseError) → OpensLevel kind.OpenParen depth old mid (Ok t) → ReadsExpr 6 (depth + 1) mid mid2 (Ok x) → IsClosed 6 mid2 → TakesToken kind.CloseParen mid2 new (Err e) →
     ReadsExpr 0 depth old new (Err e)
 parens-missing old mid mid2 new depth t x e h g closed miss = λ ps k lv room.
     refused (via (parens-opens old mid depth t ps k h lv) (g.leads [] (Purpose.inner ps k t) (omega arith) tt))
     (misses mid2 new kind.CloseParen e (State.after g.tree [] (Purpose.inner ps k t)) miss (only-closes mid2 kind.CloseParen g.tree (Purpose.inner ps k t) closed (λ u other n. inner-closes ps k t g.tree u other n)))
 
-pub parens-ok : (old mid mid2 new : Parser) (depth : ℕ) (t c : Token) (x : ℕ) → Opened kind.OpenParen depth old mid (Ok t) → ReadsExpr 6 (depth + 1) mid mid2 (Ok x) → Expected kind.CloseParen mid2 new (Ok c) → ReadsExpr 0 depth old new (Ok x)
+pub parens-ok : (old mid mid2 new : Parser) (depth : ℕ) (t c : Token) (x : ℕ) → OpensLevel kind.OpenParen depth old mid (Ok t) → ReadsExpr 6 (depth + 1) mid mid2 (Ok x) → TakesToken kind.CloseParen mid2 new (Ok c) → ReadsExpr 0 depth old new (Ok x)
 parens-ok old mid mid2 new depth t c x h g close = record {
   tree = ExprTree.parens t g.tree c;
   place = g.place ∙ rw (h.2.program, h.2.text) refl;
@@ -175,16 +177,13 @@ no-start _ a b c d e f g h i ps p t = refl
 
 -- ---- binary operators
 
-some-is : {A : Type 0} (x y : A) → Some x ≡ Some y → x ≡ y
-some-is x y e = cc
-
 -- which token the operator is
 pub operator-is : (l : ℕ) (p : Parser) (o : BinaryOp) → operator_at l (slice_get p.tokens.now p.at) ≡ Some o → (t : Token) × (Next p t × Is (sign o) t × (level o ≡ l))
 operator-is l p o e = cases (slice_get p.tokens.now p.at) refl e
   where
     test : (t : Token) (x : BinaryOp) (b : Bool) → (level x == l) ≡ b → op_of t.kind ≡ Some x → cond b (Some x) None ≡ Some o → Is (sign o) t × (level o ≡ l)
     test t x true b e h =
-        let same : x ≡ o = some-is x o h in
+        let same : x ≡ o = same_Some x o h in
         (op_of-is t.kind o (e ∙ h), rw (← same) (eqb-true (level x) l b))
     test t x false b e h = absurd cc
 
@@ -196,14 +195,14 @@ operator-is l p o e = cases (slice_get p.tokens.now p.at) refl e
     cases None n e = absurd cc
     cases (Some t) n e = let r = at t (op_of t.kind) refl e in (t, (n, r.0, r.1))
 
-turn : (first p mid : Parser) (l depth a : ℕ) (o : BinaryOp) (t : Token) (g : ExprRead l depth first p a) → Next p t → Is (sign o) t → level o ≡ l → IsAhead p mid → depth ≤ 100 →
+turn : (first p mid : Parser) (l depth a : ℕ) (o : BinaryOp) (t : Token) (g : ExprRead l depth first p a) → Next p t → Is (sign o) t → level o ≡ l → IsAhead p mid → depth ≤ deepest →
     (ps : List Pending) (k : Purpose) → level_pending (level_purpose k) ps ≡ depth → Room l ps → Leads first (State.operand ps k) mid (State.operand (Pending.left g.tree o t ∷ ps) k)
 turn first p mid l depth a o t g next is lo ahead le ps k lv room =
     via (g.leads ps k lv room)
     (stepped p mid t (State.after g.tree ps k) (State.operand (Pending.left g.tree o t ∷ ps) k) next ahead
     (rw (is, op_of-sign o, reduce-stays (level o) g.tree ps (level-positive o) (subst (λ (j : ℕ). Room j ps) (sym lo) room)) refl) (omega arith))
 
-pub turn-err : (first p mid new : Parser) (l depth a : ℕ) (o : BinaryOp) (e : ParseError) → ReadsExpr l depth first p (Ok a) → operator_at l (slice_get p.tokens.now p.at) ≡ Some o → IsAhead p mid → depth ≤ 100 → 0 < l →
+pub turn-err : (first p mid new : Parser) (l depth a : ℕ) (o : BinaryOp) (e : ParseError) → ReadsExpr l depth first p (Ok a) → operator_at l (slice_get p.tokens.now p.at) ≡ Some o → IsAhead p mid → depth ≤ deepest → 0 < l →
     ReadsExpr (l - 1) depth mid new (Err e) → ReadsExpr l depth first new (Err e)
 turn-err first p mid new l depth a o e g op ahead le pos r = λ ps k lv room.
     let w = operator-is l p o op in
@@ -214,7 +213,7 @@ settle-binary : (p : Parser) (a b : ExprTree) (o : BinaryOp) (t : Token) (ps : L
 settle-binary p a b o t ps k l lo closed = record { same = cases (slice_get p.tokens.now p.at) refl }
   where
     at : (c : Token) (ts : List Token) (x : Option BinaryOp) → NoOp l x →
-        went p.at (behind b (Pending.left a o t ∷ ps) k c c.kind x) (λ r. read_from ts r (p.at + 1)) ≡ went p.at (behind (ExprTree.binary o a t b) ps k c c.kind x) (λ r. read_from ts r (p.at + 1))
+        answer_after p.at (behind b (Pending.left a o t ∷ ps) k c c.kind x) (λ r. read_from ts r (p.at + 1)) ≡ answer_after p.at (behind (ExprTree.binary o a t b) ps k c c.kind x) (λ r. read_from ts r (p.at + 1))
     at c ts None h = rw (le-leb (level o) 6 (level-most o)) refl
     at c ts (Some y) h = let le : level o ≤ level y = omega arith in rw (le-leb (level o) (level y) le) refl
 
@@ -228,8 +227,8 @@ settle-binary p a b o t ps k l lo closed = record { same = cases (slice_get p.to
     cases None n = none (rest p) (drop-none p.tokens.now p.at n)
     cases (Some c) n = over (rest p) (drop (p.at + 1) p.tokens.now) c (drop-some p.tokens.now p.at c n) (closed c n)
 
-pub turn-ok : (first p mid mid2 new : Parser) (l depth a b n : ℕ) (o : BinaryOp) → ReadsExpr l depth first p (Ok a) → operator_at l (slice_get p.tokens.now p.at) ≡ Some o → IsAhead p mid → p.text ≡ first.text → depth ≤ 100 → 0 < l →
-    ReadsExpr (l - 1) depth mid mid2 (Ok b) → IsClosed (l - 1) mid2 → Pushed (node.Binary o a b) mid2 new (Ok n) → ReadsExpr l depth first new (Ok n)
+pub turn-ok : (first p mid mid2 new : Parser) (l depth a b n : ℕ) (o : BinaryOp) → ReadsExpr l depth first p (Ok a) → operator_at l (slice_get p.tokens.now p.at) ≡ Some o → IsAhead p mid → p.text ≡ first.text → depth ≤ deepest → 0 < l →
+    ReadsExpr (l - 1) depth mid mid2 (Ok b) → IsClosed (l - 1) mid2 → PushesExpr (node.Binary o a b) mid2 new (Ok n) → ReadsExpr l depth first new (Ok n)
 turn-ok first p mid mid2 new l depth a b n o g op ahead text le pos r closed d =
     let w = operator-is l p o op in
     record {
@@ -246,4 +245,4 @@ pub closed-here : (p new : Parser) (l : ℕ) → IsHere p new → IsClosed l p �
 closed-here p new l h closed = λ t n. closed t (rw (← h.tokens, ← h.at) n)
 
 pub some-token : (a b : Token) → Some a ≡ Some b → a ≡ b
-some-token a b e = some-is a b e
+some-token a b e = same_Some a b e

@@ -10,20 +10,21 @@ use Rattle.perm_tree.specs.declared.tokens.TokenKind.TheVariants as kind
 use Rattle.perm_parse.specs.declared.parser.Parser.{Parser}
 use Rattle.perm_parse.specs.Grammar.{ExprTree, ArgTree, RhsTree, Is, IsVar}
 use Rattle.perm_parse.specs.States.{State, Open, Purpose, ArgFor, Assigning, level_assigning, level_state}
-use Rattle.perm_parse.specs.Machine.{step, step_value, step_operand, step_value_named, step_paren, behind, finish, assigned, op_of}
-use Rattle.perm_parse.specs.Answers.{read_from, ended}
-use Rattle.perm_parse.specs.Reading.{rest, From, Next, IsPlain, Expected, Leads, IsClosed, ReadsExpr, ValueRead, ReadsValue}
+use Rattle.perm_parse.specs.Machine.{step, step_value, step_operand, step_value_named, step_paren, behind, finish, after_value, op_of}
+use Rattle.perm_parse.specs.Answers.{read_from, answer_at_end}
+use Rattle.perm_parse.specs.Reading.{rest, From, Next, IsPlain, TakesToken, Leads, IsClosed, ReadsExpr, ValueRead, ReadsValue}
+use Rattle.perm_parse.specs.Parses.{deepest}
 use Rattle.perm_parse.proofs.Descent.TokenSteps.{via, refused, takes, misses, drop-some, drop-none}
 use Rattle.perm_parse.proofs.Descent.Operands.{only-closes}
 
 -- behind a whole assignment
-pub assigned-level : (a : Assigning) (r : RhsTree) (end : Token) → level_state (assigned a r end) ≡ level_assigning a
-assigned-level (Assigning.assigning (Open.at u b) target equals) r end = refl
+pub after_value-level : (a : Assigning) (r : RhsTree) (end : Token) → level_state (after_value a r end) ≡ level_assigning a
+after_value-level (Assigning.assigning (Open.at u b) target equals) r end = refl
 
 -- ---- an expression
 
 -- two states that do the same at the token of a place, and at the end
-same-from : (ts : List Token) (m n : ℕ) (q r : State) → ((t : Token) → slice_get ts m ≡ Some t → step q t ≡ step r t) → ended q n ≡ ended r n → read_from (drop m ts) q n ≡ read_from (drop m ts) r n
+same-from : (ts : List Token) (m n : ℕ) (q r : State) → ((t : Token) → slice_get ts m ≡ Some t → step q t ≡ step r t) → answer_at_end q n ≡ answer_at_end r n → read_from (drop m ts) q n ≡ read_from (drop m ts) r n
 same-from ts m n q r h ends = cases (slice_get ts m) refl
   where
     some : (l after : List Token) (t : Token) → l ≡ t ∷ after → step q t ≡ step r t → read_from l q n ≡ read_from l r n
@@ -105,12 +106,12 @@ value-closes a e t _ h = refl
 pub plain-err : (old new : Parser) (depth : ℕ) (e : ParseError) → IsPlain old → ReadsExpr 6 depth old new (Err e) → ReadsValue depth old new (Err e)
 plain-err old new depth e plain r = λ a lv. refused (as-plain old a plain) (r [] (Purpose.to_arg (ArgFor.to_value a)) lv tt)
 
-pub plain-missing : (old mid new : Parser) (depth x : ℕ) (e : ParseError) → IsPlain old → ReadsExpr 6 depth old mid (Ok x) → IsClosed 6 mid → Expected kind.Semicolon mid new (Err e) → ReadsValue depth old new (Err e)
+pub plain-missing : (old mid new : Parser) (depth x : ℕ) (e : ParseError) → IsPlain old → ReadsExpr 6 depth old mid (Ok x) → IsClosed 6 mid → TakesToken kind.Semicolon mid new (Err e) → ReadsValue depth old new (Err e)
 plain-missing old mid new depth x e plain g closed miss = λ a lv.
     refused (via (as-plain old a plain) (g.leads [] (Purpose.to_arg (ArgFor.to_value a)) lv tt))
     (misses mid new kind.Semicolon e (State.after g.tree [] (Purpose.to_arg (ArgFor.to_value a))) miss (only-closes mid kind.Semicolon g.tree (Purpose.to_arg (ArgFor.to_value a)) closed (λ t other n. value-closes a g.tree t other n)))
 
-pub plain-ok : (old mid new : Parser) (depth x : ℕ) (end : Token) → depth ≤ 100 → IsPlain old → ReadsExpr 6 depth old mid (Ok x) → Expected kind.Semicolon mid new (Ok end) →
+pub plain-ok : (old mid new : Parser) (depth x : ℕ) (end : Token) → depth ≤ deepest → IsPlain old → ReadsExpr 6 depth old mid (Ok x) → TakesToken kind.Semicolon mid new (Ok end) →
     ValueRead depth old new (record { rhs = right.Value (argument.Expr x); head = end; end = end })
 plain-ok old mid new depth x end le plain g h = record {
   tree = RhsTree.value (ArgTree.plain g.tree);
@@ -120,5 +121,5 @@ plain-ok old mid new depth x end le plain g h = record {
   leads = λ a lv.
       via (as-plain old a plain)
       (via (g.leads [] (Purpose.to_arg (ArgFor.to_value a)) lv tt)
-      (takes mid new kind.Semicolon end (State.after g.tree [] (Purpose.to_arg (ArgFor.to_value a))) (assigned a (RhsTree.value (ArgTree.plain g.tree)) end) h refl (omega (arith, assigned-level a (RhsTree.value (ArgTree.plain g.tree)) end))));
+      (takes mid new kind.Semicolon end (State.after g.tree [] (Purpose.to_arg (ArgFor.to_value a))) (after_value a (RhsTree.value (ArgTree.plain g.tree)) end) h refl (omega (arith, after_value-level a (RhsTree.value (ArgTree.plain g.tree)) end))));
 }

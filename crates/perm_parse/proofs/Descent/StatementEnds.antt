@@ -12,14 +12,15 @@ use Rattle.perm_parse.specs.declared.parser.Parser.{Parser}
 use Rattle.perm_parse.specs.States.{State, Open, level_open, level_state}
 use Rattle.perm_parse.specs.Machine.{step_as}
 use Rattle.perm_parse.specs.Meaning.{simple}
-use Rattle.perm_parse.specs.Reading.{Expected, ExpectedVar, Variable, Leads, Refuses, PushedStmt, StmtEnded, EndsStmt}
+use Rattle.perm_parse.specs.Reading.{TakesToken, TakesVar, NamesVar, Leads, Refuses, PushesStmt, StmtEnded, EndsStmt}
+use Rattle.perm_parse.specs.Parses.{deepest}
 use Rattle.perm_parse.proofs.Descent.TokenSteps.{Only, via, here, misses, stepped-on}
 use Rattle.perm_parse.proofs.Descent.VariableValues.{takes-named}
 
-pub no-end : (old new : Parser) (first : Token) (k : StmtKind) (e : ParseError) → Expected kind.Semicolon old new (Err e) → EndsStmt first k old new (Err e)
+pub no-end : (old new : Parser) (first : Token) (k : StmtKind) (e : ParseError) → TakesToken kind.Semicolon old new (Err e) → EndsStmt first k old new (Err e)
 no-end old new first k e h = rw h.0 (refl, h.1)
 
-pub end-is : (old mid new : Parser) (first end : Token) (k : StmtKind) (s : Stmt) (r : Result ℕ ParseError) → Expected kind.Semicolon old mid (Ok end) → s ≡ simple first end k → PushedStmt s mid new r → EndsStmt first k old new r
+pub end-is : (old mid new : Parser) (first end : Token) (k : StmtKind) (s : Stmt) (r : Result ℕ ParseError) → TakesToken kind.Semicolon old mid (Ok end) → s ≡ simple first end k → PushesStmt s mid new r → EndsStmt first k old new r
 end-is old mid new first end k s (Ok n) h is d = record {
   end = end;
   next = h.0;
@@ -32,7 +33,7 @@ end-is old mid new first end k s (Ok n) h is d = record {
 end-is old mid new first end k s (Err e) h is d = rw d tt
 
 -- a state that takes the semicolon
-pub ends : (old new : Parser) (first : Token) (k : StmtKind) (n : ℕ) (q r : State) → (g : StmtEnded first k old new n) → step_as q g.end kind.Semicolon ≡ Some r → level_state r ≤ 100 → Leads old q new r
+pub ends : (old new : Parser) (first : Token) (k : StmtKind) (n : ℕ) (q r : State) → (g : StmtEnded first k old new n) → step_as q g.end kind.Semicolon ≡ Some r → level_state r ≤ deepest → Leads old q new r
 ends old new first k n q r g h le = stepped-on old new g.end q r g.next g.tokens g.at (ap (λ (x : TokenKind). step_as q g.end x) g.is ∙ h) le
 
 -- a state that takes nothing else
@@ -42,5 +43,5 @@ ends-not old new first k (TooDeep i) q h only = absurd h
 ends-not old new first k NoMemory q h only = record { says = tt }
 
 -- a statement that begins with a variable
-pub begins : (old p1 p2 : Parser) (depth : ℕ) (t : Token) (i : Ident) (o : Open) → depth ≤ 100 → level_open o ≡ depth → ExpectedVar old p1 (Ok t) → Variable t p1 p2 (Ok i) → Leads old (State.listing o) p2 (State.begun o t)
+pub begins : (old p1 p2 : Parser) (depth : ℕ) (t : Token) (i : Ident) (o : Open) → depth ≤ deepest → level_open o ≡ depth → TakesVar old p1 (Ok t) → NamesVar t p1 p2 (Ok i) → Leads old (State.listing o) p2 (State.begun o t)
 begins old p1 p2 depth t i o le lv h1 v = via (takes-named old p1 t (State.listing o) (State.begun o t) h1 refl refl (omega arith)) (here p1 p2 (State.begun o t) v.2)

@@ -14,9 +14,10 @@ use Rattle.perm_tree.specs.declared.tokens.TokenKind.TheVariants as kind
 use Rattle.perm_parse.specs.declared.parser.Parser.{Parser}
 use Rattle.perm_parse.specs.Grammar.{Is, IsVar}
 use Rattle.perm_parse.specs.States.{State, Wanted, level_state}
-use Rattle.perm_parse.specs.Machine.{step, step_as, is_variable, taken}
-use Rattle.perm_parse.specs.Answers.{read_from, ended, unexpected, too_deep}
-use Rattle.perm_parse.specs.Reading.{rest, From, Next, IsAhead, IsHere, Onward, Expected, ExpectedVar, Leads, Refuses}
+use Rattle.perm_parse.specs.Machine.{step, step_as, is_variable, state_if}
+use Rattle.perm_parse.specs.Answers.{read_from, answer_at_end, unexpected, too_deep}
+use Rattle.perm_parse.specs.Reading.{rest, From, Next, IsAhead, IsHere, Onward, TakesToken, TakesVar, Leads, Refuses}
+use Rattle.perm_parse.specs.Parses.{deepest}
 
 -- ---- the token that comes next
 
@@ -32,16 +33,16 @@ drop-none (c ∷ ts) (suc n) e = drop-none ts n e
 
 -- ---- one step
 
-steps : (ts after : List Token) (n : ℕ) (c : Token) (q r : State) → ts ≡ c ∷ after → step q c ≡ Some r → level_state r ≤ 100 → read_from ts q n ≡ read_from after r (n + 1)
+steps : (ts after : List Token) (n : ℕ) (c : Token) (q r : State) → ts ≡ c ∷ after → step q c ≡ Some r → level_state r ≤ deepest → read_from ts q n ≡ read_from after r (n + 1)
 steps ts after n c q r e h le = rw (e, h, le-leb (level_state r) 100 le) refl
 
-pub stepped : (p new : Parser) (t : Token) (q r : State) → Next p t → IsAhead p new → step q t ≡ Some r → level_state r ≤ 100 → Leads p q new r
+pub stepped : (p new : Parser) (t : Token) (q r : State) → Next p t → IsAhead p new → step q t ≡ Some r → level_state r ≤ deepest → Leads p q new r
 stepped p new t q r n a h le = record {
   same = steps (rest p) (drop (p.at + 1) p.tokens.now) p.at t q r (drop-some p.tokens.now p.at t n) h le ∙ rw (a.at, a.tokens) refl;
 }
 
 -- the same where the program grows
-pub stepped-on : (p new : Parser) (t : Token) (q r : State) → Next p t → new.tokens ≡ p.tokens → new.at ≡ p.at + 1 → step q t ≡ Some r → level_state r ≤ 100 → Leads p q new r
+pub stepped-on : (p new : Parser) (t : Token) (q r : State) → Next p t → new.tokens ≡ p.tokens → new.at ≡ p.at + 1 → step q t ≡ Some r → level_state r ≤ deepest → Leads p q new r
 stepped-on p new t q r n tokens at h le = record {
   same = steps (rest p) (drop (p.at + 1) p.tokens.now) p.at t q r (drop-some p.tokens.now p.at t n) h le ∙ rw (at, tokens) refl;
 }
@@ -52,13 +53,13 @@ dead p t q n h = record { says = refuses (rest p) (drop (p.at + 1) p.tokens.now)
     refuses : (ts after : List Token) → ts ≡ t ∷ after → read_from ts q p.at ≡ unexpected p.at
     refuses ts after e = rw (e, h) refl
 
-pub too-deep : (p : Parser) (t : Token) (q r : State) → Next p t → step q t ≡ Some r → 100 < level_state r → Refuses p q (TooDeep p.at)
+pub too-deep : (p : Parser) (t : Token) (q r : State) → Next p t → step q t ≡ Some r → deepest < level_state r → Refuses p q (TooDeep p.at)
 too-deep p t q r n h lt = record { says = refuses (rest p) (drop (p.at + 1) p.tokens.now) (drop-some p.tokens.now p.at t n) }
   where
     refuses : (ts after : List Token) → ts ≡ t ∷ after → read_from ts q p.at ≡ too_deep p.at
     refuses ts after e = rw (e, h, lt-leb (level_state r) 100 lt) refl
 
-pub at-end : (p : Parser) (q : State) → slice_get p.tokens.now p.at ≡ None → ended q p.at ≡ unexpected p.at → Refuses p q (Unexpected p.at)
+pub at-end : (p : Parser) (q : State) → slice_get p.tokens.now p.at ≡ None → answer_at_end q p.at ≡ unexpected p.at → Refuses p q (Unexpected p.at)
 at-end p q n h = record { says = refuses (rest p) (drop-none p.tokens.now p.at n) }
   where
     refuses : (ts : List Token) → ts ≡ [] → read_from ts q p.at ≡ unexpected p.at
@@ -85,7 +86,7 @@ no-memory p q e is = record { says = rw is tt }
 -- the state takes no other token that comes next, and doesn't end the program
 pub record Only (p : Parser) (wanted : TokenKind) (q : State) : Type 0 where
   pub others : (t : Token) → Next p t → (Is wanted t → ⊥) → step q t ≡ None
-  pub ends : ended q p.at ≡ unexpected p.at
+  pub ends : answer_at_end q p.at ≡ unexpected p.at
 
 pub only-expects : (p : Parser) (so_far : List Token → List Token) (d : ℕ) (wanted : TokenKind) (next : Token → State) → Only p wanted (State.expects so_far d (Wanted.exactly wanted) next)
 only-expects p so_far d wanted next = record {
@@ -93,10 +94,10 @@ only-expects p so_far d wanted next = record {
   ends = refl;
 }
 
-pub takes : (p new : Parser) (wanted : TokenKind) (t : Token) (q r : State) → Expected wanted p new (Ok t) → step_as q t wanted ≡ Some r → level_state r ≤ 100 → Leads p q new r
+pub takes : (p new : Parser) (wanted : TokenKind) (t : Token) (q r : State) → TakesToken wanted p new (Ok t) → step_as q t wanted ≡ Some r → level_state r ≤ deepest → Leads p q new r
 takes p new wanted t q r h e le = stepped p new t q r h.0 h.2 (ap (λ (x : TokenKind). step_as q t x) h.1 ∙ e) le
 
-pub misses : (p new : Parser) (wanted : TokenKind) (e : ParseError) (q : State) → Expected wanted p new (Err e) → Only p wanted q → Refuses p q e
+pub misses : (p new : Parser) (wanted : TokenKind) (e : ParseError) (q : State) → TakesToken wanted p new (Err e) → Only p wanted q → Refuses p q e
 misses p new wanted e q h only = rw h.0 (cases (slice_get p.tokens.now p.at) refl)
   where
     cases : (o : Option Token) → slice_get p.tokens.now p.at ≡ o → Refuses p q (Unexpected p.at)
@@ -119,11 +120,11 @@ onward-same p = record { text = refl; tokens = refl; at = omega arith; exprs = o
 same-over : (ts after : List Token) (t : Token) (n : ℕ) (q r : State) → ts ≡ t ∷ after → step q t ≡ step r t → read_from ts q n ≡ read_from ts r n
 same-over ts after t n q r e h = rw (e, h) refl
 
-none-over : (ts : List Token) (n : ℕ) (q r : State) → ts ≡ [] → ended q n ≡ ended r n → read_from ts q n ≡ read_from ts r n
+none-over : (ts : List Token) (n : ℕ) (q r : State) → ts ≡ [] → answer_at_end q n ≡ answer_at_end r n → read_from ts q n ≡ read_from ts r n
 none-over ts n q r e h = rw e h
 
 -- two states that do the same at the next token, and at the end
-pub same-next : (p : Parser) (q r : State) → ((t : Token) → Next p t → step q t ≡ step r t) → ended q p.at ≡ ended r p.at → Leads p q p r
+pub same-next : (p : Parser) (q r : State) → ((t : Token) → Next p t → step q t ≡ step r t) → answer_at_end q p.at ≡ answer_at_end r p.at → Leads p q p r
 same-next p q r h ends = record { same = cases (slice_get p.tokens.now p.at) refl }
   where
     cases : (o : Option Token) → slice_get p.tokens.now p.at ≡ o → From p q ≡ From p r
@@ -141,12 +142,12 @@ var-misses t kind.Name is h = absurd (h (inl is))
 var-misses t kind.This is h = absurd (h (inr is))
 var-misses t _ is h = refl
 
-pub takes-var : (p new : Parser) (t : Token) (so_far : List Token → List Token) (d : ℕ) (next : Token → State) → ExpectedVar p new (Ok t) → level_state (next t) ≤ 100 → Leads p (State.expects so_far d Wanted.a_variable next) new (next t)
-takes-var p new t so_far d next h le = stepped p new t (State.expects so_far d Wanted.a_variable next) (next t) h.0 h.2 (ap (λ (b : Bool). taken b (next t)) (var-takes t t.kind refl h.1)) le
+pub takes-var : (p new : Parser) (t : Token) (so_far : List Token → List Token) (d : ℕ) (next : Token → State) → TakesVar p new (Ok t) → level_state (next t) ≤ deepest → Leads p (State.expects so_far d Wanted.a_variable next) new (next t)
+takes-var p new t so_far d next h le = stepped p new t (State.expects so_far d Wanted.a_variable next) (next t) h.0 h.2 (ap (λ (b : Bool). state_if b (next t)) (var-takes t t.kind refl h.1)) le
 
-pub misses-var : (p new : Parser) (e : ParseError) (so_far : List Token → List Token) (d : ℕ) (next : Token → State) → ExpectedVar p new (Err e) → Refuses p (State.expects so_far d Wanted.a_variable next) e
+pub misses-var : (p new : Parser) (e : ParseError) (so_far : List Token → List Token) (d : ℕ) (next : Token → State) → TakesVar p new (Err e) → Refuses p (State.expects so_far d Wanted.a_variable next) e
 misses-var p new e so_far d next h = rw h.0 (cases (slice_get p.tokens.now p.at) refl)
   where
     cases : (o : Option Token) → slice_get p.tokens.now p.at ≡ o → Refuses p (State.expects so_far d Wanted.a_variable next) (Unexpected p.at)
     cases None n = at-end p (State.expects so_far d Wanted.a_variable next) n refl
-    cases (Some t) n = dead p t (State.expects so_far d Wanted.a_variable next) n (ap (λ (b : Bool). taken b (next t)) (var-misses t t.kind refl (h.1 t n)))
+    cases (Some t) n = dead p t (State.expects so_far d Wanted.a_variable next) n (ap (λ (b : Bool). state_if b (next t)) (var-misses t t.kind refl (h.1 t n)))

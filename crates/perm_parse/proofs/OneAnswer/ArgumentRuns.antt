@@ -9,7 +9,7 @@ use Rattle.perm_tree.specs.declared.tokens.TokenKind.TheVariants as kind
 use Rattle.perm_parse.specs.Grammar.{TypeTree, ExprTree, ArgTree, ArgList, Args, Is, IsVar, IsType, IsExpr, IsArg, IsArgList, AreArgs, perm_word, type_text, expr_text, arg_text, arg_list_text, args_text}
 use Rattle.perm_parse.specs.Levels.{type_levels, expr_levels, arg_levels, arg_list_levels, args_levels}
 use Rattle.perm_parse.specs.States.{Purpose, TypeFor, ArgFor, ArgsPart, CallPart, State, level_state, level_purpose, level_type_for, level_arg_for, level_call_part}
-use Rattle.perm_parse.specs.Machine.{step_as, step_type, finish, finish_arg, push_arg, close_call, typed, walk, noted, op_of}
+use Rattle.perm_parse.specs.Machine.{step_as, step_type, finish, finish_arg, push_arg, close_call, after_type, walk, note_level, op_of}
 use Rattle.perm_parse.proofs.OneAnswer.Runs.{Runs, go, moves, via}
 use Rattle.perm_parse.proofs.OneAnswer.ExpressionRuns.{reads, closes}
 
@@ -43,7 +43,7 @@ Begins _ = ⊥
 -- at a token of this kind two states do the same
 pub same_at : (q r : State) (t : Token) (ts : List Token) (wanted : TokenKind) → Is wanted t → step_as q t wanted ≡ step_as r t wanted → walk q (t ∷ ts) ≡ walk r (t ∷ ts)
 same_at q r t ts wanted is e =
-    ap (λ (x : Option State). noted x (λ z. walk z ts)) (ap (λ (x : TokenKind). step_as q t x) is ∙ e ∙ sym (ap (λ (x : TokenKind). step_as r t x) is))
+    ap (λ (x : Option State). note_level x (λ z. walk z ts)) (ap (λ (x : TokenKind). step_as q t x) is ∙ e ∙ sym (ap (λ (x : TokenKind). step_as r t x) is))
 
 -- where two states do the same at each token that begins an operand, they do the same at an expression
 pub same_at-expr : (q r : State) → ((t : Token) (k : TokenKind) → Begins k → step_as q t k ≡ step_as r t k) → (e : ExprTree) → IsExpr e → (rest : List Token) → walk q (expr_text e rest) ≡ walk r (expr_text e rest)
@@ -56,7 +56,7 @@ same_at-expr q r same (ExprTree.variable t) (inr h) rest = same_at q r t rest ki
 same_at-expr q r same (ExprTree.parens opening e closing) h rest = same_at q r opening (expr_text e (closing ∷ rest)) kind.OpenParen h.0 (same opening kind.OpenParen tt)
 same_at-expr q r same (ExprTree.unary unary_op.Minus t e) h rest = same_at q r t (expr_text e rest) kind.Minus h.0 (same t kind.Minus tt)
 same_at-expr q r same (ExprTree.unary unary_op.Not t e) h rest = same_at q r t (expr_text e rest) kind.Bang h.0 (same t kind.Bang tt)
-same_at-expr q r same (ExprTree.binary o a t b) h rest = same_at-expr q r same a h.0 (t ∷ expr_text b rest)
+same_at-expr q r same (ExprTree.binary o a t b) h rest = same_at-expr q r same a h.left (t ∷ expr_text b rest)
 
 pub same_at-arg : (q r : State) → ((t : Token) (k : TokenKind) → Begins k → step_as q t k ≡ step_as r t k) → ((t : Token) → step_as q t kind.Consume ≡ step_as r t kind.Consume) →
     (a : ArgTree) → IsArg a → (rest : List Token) → walk q (arg_text a rest) ≡ walk r (arg_text a rest)
@@ -126,9 +126,9 @@ perm-seen k perm.Writable t = refl
 
 -- a type, at a state that reads one
 pub type : (q : State) (k : TypeFor) → ((t : Token) (other : TokenKind) → BeginsType other → step_as q t other ≡ step_type k t other) → (ty : TypeTree) → IsType ty → {rest : List Token} {levels : List ℕ → List ℕ} {s : State} {last : List Token} →
-    Runs (typed k ty) rest levels s last → Runs q (type_text ty rest) (λ ls. type_levels (level_type_for k) ty (levels ls)) s last
+    Runs (after_type k ty) rest levels s last → Runs q (type_text ty rest) (λ ls. type_levels (level_type_for k) ty (levels ls)) s last
 type q k same (TypeTree.long_type t) h next = go h (same t kind.Long tt) next
 type q k same (TypeTree.bool_type t) h next = go h (same t kind.Bool tt) next
 type q k same (TypeTree.object_type p word name) h next = go h.0 (same word (perm_word p) (begins-perm p) ∙ perm-seen k p word) (go h.1 refl next)
 type q k same (TypeTree.array_type p word long opening closing) h next =
-    go h.0 (same word (perm_word p) (begins-perm p) ∙ perm-seen k p word) (go h.1 refl (go h.2 refl (go h.3 refl next)))
+    go h.perm (same word (perm_word p) (begins-perm p) ∙ perm-seen k p word) (go h.word refl (go h.opening refl (go h.closing refl next)))

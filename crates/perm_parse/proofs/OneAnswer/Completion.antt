@@ -5,7 +5,7 @@ use Rattle.perm_tree.specs.declared.tokens.TokenKind.{TokenKind}
 use Rattle.perm_tree.specs.declared.tokens.TokenKind.TheVariants as kind
 use Rattle.perm_parse.specs.Grammar.{TypeTree, ExprTree, ArgTree, Args, CallTree, RhsTree, Params, BlockTree, StmtTree, Stmts, Classes}
 use Rattle.perm_parse.specs.States.{Pending, ClassPart, MethodPart, BodyPart, Lead, Outer, Open, Assigning, CallFor, CallPart, ArgFor, Purpose, TypeFor, Wanted, State}
-use Rattle.perm_parse.specs.Machine.{walk, reduce, end_method, type_named, push_arg, push_param}
+use Rattle.perm_parse.specs.Machine.{walk, reduce, end_method, after_named_type, push_arg, push_param}
 use Rattle.perm_tree.specs.contracts.tokens.TokenKind.{the_type}
 use denote.Enum.Bare.{true_same}
 use Rattle.perm_parse.proofs.OneAnswer.StatementRuns.{NoElse, then-ends}
@@ -174,7 +174,7 @@ ends-purpose (Purpose.to_length (Assigning.assigning (Open.at u b) target equals
 ends-perm : (part : MethodPart) (list : Params) (closing : Token) → Ends (State.perm_due part list closing) end_perm
 ends-perm (MethodPart.method_part (ClassPart.class_part done class_word name opening so_far) ty method paren) list closing = (_, refl)
 
-ends-named : (k : TypeFor) (ty : TypeTree) (name : Token) → Ends (type_named k ty name) (end_named k)
+ends-named : (k : TypeFor) (ty : TypeTree) (name : Token) → Ends (after_named_type k ty name) (end_named k)
 ends-named (TypeFor.to_member (ClassPart.class_part done class_word class_name opening so_far)) ty name = (_, refl)
 ends-named (TypeFor.to_param part list) ty name = ends-perm part (Params.params (push_param list ty name)) (some_token kind.CloseParen)
 ends-named (TypeFor.to_local (Open.at u b)) ty name = ends-outer u (Stmts.more_stmts b (StmtTree.declare ty name (some_token kind.Semicolon)))

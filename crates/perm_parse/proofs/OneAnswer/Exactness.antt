@@ -3,14 +3,15 @@ use Rattle.std.proofs.Common.{◌≡◌, ℕ, ◌+◌, ◌≤◌, List, [], ◌�
 use Rattle.std.proofs.Math.Seq.{take-append_seam, take-append-add, take-length}
 use Rattle.std.proofs.lemmas.List.{length-append}
 use Rattle.std.proofs.lemmas.Bool.{leb-true, leb-false}
+use Rattle.std.proofs.lemmas.Option.{same_Some}
 use Rattle.perm_tree.specs.declared.tokens.Token.{Token}
 use Rattle.perm_parse.specs.Grammar.{Classes, IsProgram, program_text}
 use Rattle.perm_parse.specs.Levels.{program_levels}
 use Rattle.perm_parse.specs.States.{State, level_state}
-use Rattle.perm_parse.specs.Machine.{step, walk, noted}
+use Rattle.perm_parse.specs.Machine.{step, walk, note_level}
 use Rattle.perm_parse.specs.Meaning.{meaning}
-use Rattle.perm_parse.specs.Parses.{Parses, IsFront, IsFirstDead, Shallow}
-use Rattle.perm_parse.specs.Answers.{too_deep, ended, went, read_from, start, read, IsAnswer}
+use Rattle.perm_parse.specs.Parses.{Parses, IsFront, IsFirstDead, Shallow, deepest}
+use Rattle.perm_parse.specs.Answers.{too_deep, answer_at_end, answer_after, read_from, start, read, IsAnswer}
 use Rattle.perm_parse.proofs.OneAnswer.GoodStates.{state_text, IsState}
 use Rattle.perm_parse.proofs.OneAnswer.ProgramRuns.{program}
 use Rattle.perm_parse.proofs.OneAnswer.Soundness.{Extends}
@@ -32,7 +33,7 @@ walk-append q (x ∷ xs) ys = behind (step q x) (λ r. walk-append r xs ys)
     under l (ls, None) = refl
     under l (ls, Some q) = refl
 
-    behind : (o : Option State) → ((r : State) → walk r (xs ++ ys) ≡ goes_on (walk r xs) (λ z. walk z ys)) → noted o (λ r. walk r (xs ++ ys)) ≡ goes_on (noted o (λ r. walk r xs)) (λ z. walk z ys)
+    behind : (o : Option State) → ((r : State) → walk r (xs ++ ys) ≡ goes_on (walk r xs) (λ z. walk z ys)) → note_level o (λ r. walk r (xs ++ ys)) ≡ goes_on (note_level o (λ r. walk r xs)) (λ z. walk z ys)
     behind None h = refl
     behind (Some r) h = ap (λ (w : List ℕ × Option State). (level_state r ∷ w.0, w.1)) (h r) ∙ under (level_state r) (walk r xs)
 
@@ -44,7 +45,7 @@ walks-on : (pre post : List Token) (ls : List ℕ) (q : State) → Walks pre ls 
 walks-on pre post ls q e = walk-append start pre post ∙ ap (λ (w : List ℕ × Option State). goes_on w (λ r. walk r post)) e
 
 walks-one : (pre : List Token) (t : Token) (ls : List ℕ) (q r : State) → Walks pre ls q → step q t ≡ Some r → Walks (pre ++ (t ∷ [])) (ls ++ (level_state r ∷ [])) r
-walks-one pre t ls q r e s = walks-on pre (t ∷ []) ls q e ∙ ap (λ (x : Option State). (ls ++ (noted x (λ z. walk z [])).0, (noted x (λ z. walk z [])).1)) s
+walks-one pre t ls q r e s = walks-on pre (t ∷ []) ls q e ∙ ap (λ (x : Option State). (ls ++ (note_level x (λ z. walk z [])).0, (note_level x (λ z. walk z [])).1)) s
 
 -- what a program's tree spells is read
 pub complete : (c : Classes) → IsProgram c → Walks (program_text c []) (program_levels c []) (State.between_classes c)
@@ -52,16 +53,13 @@ complete c h = (program c [] h).same
 
 -- ---- what is read is the front of a program
 
-some-is : {A : Type 0} (x y : A) → Some x ≡ Some y → x ≡ y
-some-is x y e = cc
-
 walk-is : (ts : List Token) (q r : State) → IsState q → (walk q ts).1 ≡ Some r → IsState r × ((rest : List Token) → state_text r rest ≡ state_text q (ts ++ rest))
-walk-is [] q r h e = subst (λ (z : State). IsState z × ((rest : List Token) → state_text z rest ≡ state_text q rest)) (some-is q r e) (h, λ rest. refl)
+walk-is [] q r h e = subst (λ (z : State). IsState z × ((rest : List Token) → state_text z rest ≡ state_text q rest)) (same_Some q r e) (h, λ rest. refl)
 walk-is (t ∷ ts) q r h e = behind (step q t) (step-is q t h) (λ y hy ey. walk-is ts y r hy ey) e
   where
     behind : (z : Option State) → Extends (state_text q) t z →
         ((y : State) → IsState y → (walk y ts).1 ≡ Some r → IsState r × ((rest : List Token) → state_text r rest ≡ state_text y (ts ++ rest))) →
-        (noted z (λ y. walk y ts)).1 ≡ Some r → IsState r × ((rest : List Token) → state_text r rest ≡ state_text q (t ∷ (ts ++ rest)))
+        (note_level z (λ y. walk y ts)).1 ≡ Some r → IsState r × ((rest : List Token) → state_text r rest ≡ state_text q (t ∷ (ts ++ rest)))
     behind None x more e = absurd cc
     behind (Some y) x more e = let d = more y x.0 e in (d.0, λ rest. d.1 rest ∙ x.1 (ts ++ rest))
 
@@ -86,7 +84,7 @@ step-dead pre t ls q e stop f =
     let yes = complete f.tree f.is_tree in
     let same : program_text f.tree [] ≡ pre ++ (t ∷ f.more) = f.spells ∙ append_assoc pre (t ∷ []) f.more in
     let no : (walk start (pre ++ (t ∷ f.more))).1 ≡ None =
-    ap (λ (w : List ℕ × Option State). w.1) (walks-on pre (t ∷ f.more) ls q e) ∙ ap (λ (x : Option State). (noted x (λ z. walk z f.more)).1) stop in
+    ap (λ (w : List ℕ × Option State). w.1) (walks-on pre (t ∷ f.more) ls q e) ∙ ap (λ (x : Option State). (note_level x (λ z. walk z f.more)).1) stop in
     never (State.between_classes f.tree) (sym (ap (λ (w : List ℕ × Option State). w.1) yes) ∙ ap (λ (x : List Token). (walk start x).1) same ∙ no)
 
 -- a program, however deep, is read to its end
@@ -104,10 +102,10 @@ not-end text ts ls q e h = record {
   within = omega arith;
   front = rw take-length (front ts ls q e);
   dead = λ lt. absurd (omega arith);
-  ended = λ lt c is spells. h c (some-is q (State.between_classes c) (sym (ap (λ (w : List ℕ × Option State). w.1) e) ∙ only ts c is spells));
+  ended = λ lt c is spells. h c (same_Some q (State.between_classes c) (sym (ap (λ (w : List ℕ × Option State). w.1) e) ∙ only ts c is spells));
 }
 
-at-end : (text : List ℕ) (ts : List Token) (ls : List ℕ) (q : State) → Walks ts ls q → Shallow ls → IsAnswer text ts (ended q (length ts))
+at-end : (text : List ℕ) (ts : List Token) (ls : List ℕ) (q : State) → Walks ts ls q → Shallow ls → IsAnswer text ts (answer_at_end q (length ts))
 at-end text ts ls (State.between_classes c) e low = program-is text ts ls c e low
 at-end text ts ls (State.expects so_far d wanted next) e low = not-end text ts ls (State.expects so_far d wanted next) e (λ a h. cc)
 at-end text ts ls (State.in_class c) e low = not-end text ts ls (State.in_class c) e (λ a h. cc)
@@ -137,7 +135,7 @@ at-end text ts ls (State.after x ps k) e low = not-end text ts ls (State.after x
 one-more : (pre post : List Token) (t : Token) → take (length pre + 1) (pre ++ (t ∷ post)) ≡ pre ++ (t ∷ [])
 one-more pre post t = take-append-add pre (t ∷ post) 1
 
-shallow-more : (ls : List ℕ) (l : ℕ) → Shallow ls → l ≤ 100 → Shallow (ls ++ (l ∷ []))
+shallow-more : (ls : List ℕ) (l : ℕ) → Shallow ls → l ≤ deepest → Shallow (ls ++ (l ∷ []))
 shallow-more [] l h le = (le, tt)
 shallow-more (m ∷ ls) l h le = (h.0, shallow-more ls l h.1 le)
 
@@ -148,7 +146,7 @@ next text pre (t ∷ post) ls q e low long = behind (step q t) refl (λ r h low 
     behind : (x : Option State) → step q t ≡ x →
         ((r : State) → Walks (pre ++ (t ∷ [])) (ls ++ (level_state r ∷ [])) r → Shallow (ls ++ (level_state r ∷ [])) → length (ls ++ (level_state r ∷ [])) ≡ length (pre ++ (t ∷ [])) →
         IsAnswer text ((pre ++ (t ∷ [])) ++ post) (read_from post r (length (pre ++ (t ∷ []))))) →
-        IsAnswer text (pre ++ (t ∷ post)) (went (length pre) x (λ r. read_from post r (length pre + 1)))
+        IsAnswer text (pre ++ (t ∷ post)) (answer_after (length pre) x (λ r. read_from post r (length pre + 1)))
     behind None h more = record {
       within = omega (arith, length-append pre (t ∷ post));
       front = rw take-append_seam (front pre ls q e);

@@ -13,10 +13,10 @@ use Rattle.perm_parse.specs.Machine.{reduce, step, op_of, finish}
 use Rattle.perm_parse.proofs.OneAnswer.Runs.{Runs, stop, go, moves, via}
 
 -- where the reading stands behind the tokens of an expression: at its last operand
-abbrev pub settled : ExprTree → List Pending → ExprTree × List Pending
-settled (ExprTree.unary o t e) ps = settled e (Pending.before o t ∷ ps)
-settled (ExprTree.binary o a t b) ps = settled b (Pending.left a o t ∷ ps)
-settled e ps = (e, ps)
+abbrev pub settle : ExprTree → List Pending → ExprTree × List Pending
+settle (ExprTree.unary o t e) ps = settle e (Pending.before o t ∷ ps)
+settle (ExprTree.binary o a t b) ps = settle b (Pending.left a o t ∷ ps)
+settle e ps = (e, ps)
 
 pub Room-less : (k l : ℕ) (ps : List Pending) → k ≤ l → Room l ps → Room k ps
 Room-less k l [] h r = tt
@@ -63,14 +63,14 @@ reduce-stays l e [] pos r = refl
 reduce-stays l e (Pending.before o t ∷ ps) pos r = absurd (omega arith)
 reduce-stays l e (Pending.left a o t ∷ ps) pos r = rw (lt-leb (level o) l r) refl
 
-pub reduce-settled : (l : ℕ) (e : ExprTree) (ps : List Pending) → IsExpr e → looseness e ≤ l → reduce l (settled e ps).0 (settled e ps).1 ≡ reduce l e ps
+pub reduce-settled : (l : ℕ) (e : ExprTree) (ps : List Pending) → IsExpr e → looseness e ≤ l → reduce l (settle e ps).0 (settle e ps).1 ≡ reduce l e ps
 reduce-settled l (ExprTree.unary o t e) ps h le = reduce-settled l e (Pending.before o t ∷ ps) h.1 (omega (arith, h.2))
-reduce-settled l (ExprTree.binary o a t b) ps h le = reduce-settled l b (Pending.left a o t ∷ ps) h.2 (omega (arith, h.4)) ∙ rw (le-leb (level o) l le) refl
+reduce-settled l (ExprTree.binary o a t b) ps h le = reduce-settled l b (Pending.left a o t ∷ ps) h.right (omega (arith, h.right_level)) ∙ rw (le-leb (level o) l le) refl
 reduce-settled l _ ps h le = refl
 
 -- the state behind the tokens of an expression
 abbrev pub at_last : ExprTree → List Pending → Purpose → State
-at_last e ps k = State.after (settled e ps).0 (settled e ps).1 k
+at_last e ps k = State.after (settle e ps).0 (settle e ps).1 k
 
 pub op_of-sign : (o : BinaryOp) → op_of (sign o) ≡ Some o
 op_of-sign op.Mul = refl
@@ -110,5 +110,5 @@ reads k (ExprTree.parens opening e closing) ps rest h room =
 reads k (ExprTree.unary unary_op.Minus t e) ps rest h room = go h.0 refl (reads k e (Pending.before unary_op.Minus t ∷ ps) rest h.1 h.2)
 reads k (ExprTree.unary unary_op.Not t e) ps rest h room = go h.0 refl (reads k e (Pending.before unary_op.Not t ∷ ps) rest h.1 h.2)
 reads k (ExprTree.binary o a t b) ps rest h room =
-    via (reads k a ps (t ∷ expr_text b rest) h.0 (Room-less (looseness a) (level o) ps h.3 room))
-    (moves (operator k o t a ps h.0 h.1 h.3 room) (reads k b (Pending.left a o t ∷ ps) rest h.2 h.4))
+    via (reads k a ps (t ∷ expr_text b rest) h.left (Room-less (looseness a) (level o) ps h.left_level room))
+    (moves (operator k o t a ps h.left h.operator h.left_level room) (reads k b (Pending.left a o t ∷ ps) rest h.right h.right_level))

@@ -22,8 +22,8 @@ param_list : (part : MethodPart) (list : ParamList) (rest : List Token) → IsPa
 param_list part (ParamList.one_param ty name) rest h =
     type (State.params_due part) (TypeFor.to_param part ParamsPart.no_param_yet) (λ t o b. first-param part t o b) ty h.0 (go h.1 refl stop)
 param_list part (ParamList.more_params list comma ty name) rest h =
-    via (param_list part list (comma ∷ type_text ty (name ∷ rest)) h.0)
-    (go h.1 refl (type (State.type_due (TypeFor.to_param part (ParamsPart.behind_param list comma))) (TypeFor.to_param part (ParamsPart.behind_param list comma)) (λ t o b. refl) ty h.2 (go h.3 refl stop)))
+    via (param_list part list (comma ∷ type_text ty (name ∷ rest)) h.list)
+    (go h.comma refl (type (State.type_due (TypeFor.to_param part (ParamsPart.behind_param list comma))) (TypeFor.to_param part (ParamsPart.behind_param list comma)) (λ t o b. refl) ty h.ty (go h.name refl stop)))
 
 -- the parameters of a method, with its parenthesis
 params : (part : MethodPart) (list : Params) (closing : Token) → AreParams list → Is kind.CloseParen closing → {rest : List Token} {levels : List ℕ → List ℕ} {s : State} {last : List Token} →
@@ -50,10 +50,10 @@ member list word name opening members (MemberTree.method ty method paren ps clos
     let c = ClassPart.class_part list word name opening members in
     let part = MethodPart.method_part c ty method paren in
     let body = BodyPart.body_part part ps closing p perm start in
-    type (State.in_class c) (TypeFor.to_member c) (λ t o b. member-type c t o b) ty h.0 (go h.1 refl (go h.2 refl (params part ps closing h.3 h.4
-    (go h.5 (perm-opens part ps closing p perm) (go h.6 refl
-    (via (stmts (Outer.body body) b (back ∷ arg_text a (end ∷ finish ∷ rest)) h.7 (no-else-at back (arg_text a (end ∷ finish ∷ rest)) kind.Return (λ e. cc) h.8))
-    (go h.8 refl (arg (ArgFor.to_return body b back) a end h.9 h.10 refl refl (go h.11 refl stop)))))))))
+    type (State.in_class c) (TypeFor.to_member c) (λ t o b. member-type c t o b) ty h.ty (go h.name refl (go h.opening refl (params part ps closing h.params h.closing
+    (go h.perm (perm-opens part ps closing p perm) (go h.start refl
+    (via (stmts (Outer.body body) b (back ∷ arg_text a (end ∷ finish ∷ rest)) h.body (no-else-at back (arg_text a (end ∷ finish ∷ rest)) kind.Return (λ e. cc) h.word))
+    (go h.word refl (arg (ArgFor.to_return body b back) a end h.back h.end refl refl (go h.finish refl stop)))))))))
 
 members : (list : Classes) (word name opening : Token) (x : Members) (rest : List Token) → AreMembers x →
     Runs (State.in_class (ClassPart.class_part list word name opening Members.no_members)) (members_text x rest) (members_levels x) (State.in_class (ClassPart.class_part list word name opening x)) rest
@@ -64,5 +64,5 @@ members list word name opening (Members.more_members x y) rest h = via (members 
 pub program : (x : Classes) (rest : List Token) → IsProgram x → Runs (State.between_classes Classes.no_classes) (program_text x rest) (program_levels x) (State.between_classes x) rest
 program Classes.no_classes rest h = stop
 program (Classes.more_classes x word name opening y closing) rest h =
-    via (program x (word ∷ name ∷ opening ∷ members_text y (closing ∷ rest)) h.0)
-    (go h.1 refl (go h.2 refl (go h.3 refl (via (members x word name opening y (closing ∷ rest) h.4) (go h.5 refl stop)))))
+    via (program x (word ∷ name ∷ opening ∷ members_text y (closing ∷ rest)) h.list)
+    (go h.word refl (go h.name refl (go h.opening refl (via (members x word name opening y (closing ∷ rest) h.members) (go h.closing refl stop)))))

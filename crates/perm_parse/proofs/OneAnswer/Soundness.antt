@@ -8,7 +8,7 @@ use Rattle.perm_tree.specs.declared.tokens.TokenKind.{TokenKind}
 use Rattle.perm_tree.specs.declared.tokens.TokenKind.TheVariants as kind
 use Rattle.perm_parse.specs.Grammar.{ExprTree, ArgTree, Args, CallTree, RhsTree, StmtTree, Stmts, Is, IsExpr, IsArg, IsArgList, AreArgs, IsCall, IsRhs, IsStmt, AreStmts, looseness, level, sign, expr_text, arg_text, arg_list_text, args_text, call_text, rhs_text, stmt_text, stmts_text}
 use Rattle.perm_parse.specs.States.{Pending, ClassPart, MethodPart, BodyPart, Lead, Open, Assigning, CallFor, CallPart, ArgsPart, ArgFor, Purpose, State, Room, pending_text, body_part_text, lead_text, open_text, assigning_text, call_for_text, call_part_text, args_part_text, arg_for_text, purpose_text}
-use Rattle.perm_parse.specs.Machine.{reduce, step_operand, finish, finish_arg, behind, op_of, enter, add, assigned, ends_value, call_ended, close_call, end_method, push_arg}
+use Rattle.perm_parse.specs.Machine.{reduce, step_operand, finish, finish_arg, behind, op_of, enter, add, after_value, ends_value, after_call, close_call, end_method, push_arg}
 use Rattle.perm_parse.proofs.OneAnswer.GoodStates.{state_text, IsState, ArePending, IsBodyPart, IsLead, IsOpen, IsAssigning, IsCallFor, IsCallPart, AreArgsPart, IsArgFor, IsPurpose}
 use Rattle.perm_parse.proofs.OneAnswer.ExpressionRuns.{level-positive, level-most}
 
@@ -41,7 +41,7 @@ reduces l e (Pending.before o t ∷ ps) pos h le hp room =
     let r = reduces l (ExprTree.unary o t e) ps pos (hp.0, h, room) (omega arith) hp.1 (Room-zero 0 ps refl) in
     record { expr = r.expr; loose = r.loose; rest = r.rest; room = r.room; text = r.text }
 reduces l e (Pending.left a o t ∷ ps) pos h le hp room =
-    joins (nat_le (level o) l) refl (λ lo. reduces l (ExprTree.binary o a t e) ps pos (hp.0, hp.2, h, hp.1, room) lo hp.4 hp.3)
+    joins (nat_le (level o) l) refl (λ lo. reduces l (ExprTree.binary o a t e) ps pos (record { left = hp.0; operator = hp.2; right = h; left_level = hp.1; right_level = room }) lo hp.4 hp.3)
   where
     joins : (b : Bool) → nat_le (level o) l ≡ b → (level o ≤ l → Reduced l (ExprTree.binary o a t e) ps (reduce l (ExprTree.binary o a t e) ps)) →
         Reduced l e (Pending.left a o t ∷ ps) (cond b (reduce l (ExprTree.binary o a t e) ps) (e, Pending.left a o t ∷ ps))
@@ -90,14 +90,14 @@ pub added : (o : Open) (x : StmtTree) (so_far : List Token → List Token) (t : 
     ((rest : List Token) → open_text o (stmt_text x rest) ≡ so_far (t ∷ rest)) → Longer so_far t (add o x)
 added (Open.at u b) x so_far t h g e = ((h.0, (h.1, g)), e)
 
-pub assigned-is : (a : Assigning) (r : RhsTree) (so_far : List Token → List Token) (t : Token) → IsAssigning a → IsRhs r → Is kind.Semicolon t →
-    ((rest : List Token) → assigning_text a (rhs_text r (t ∷ rest)) ≡ so_far (t ∷ rest)) → Longer so_far t (assigned a r t)
-assigned-is (Assigning.assigning o target equals) r so_far t h g is e = added o (StmtTree.assign target equals r t) so_far t h.0 (h.1, h.2, g, is) e
+pub after_value-is : (a : Assigning) (r : RhsTree) (so_far : List Token → List Token) (t : Token) → IsAssigning a → IsRhs r → Is kind.Semicolon t →
+    ((rest : List Token) → assigning_text a (rhs_text r (t ∷ rest)) ≡ so_far (t ∷ rest)) → Longer so_far t (after_value a r t)
+after_value-is (Assigning.assigning o target equals) r so_far t h g is e = added o (StmtTree.assign target equals r t) so_far t h.0 (record { target = h.1; equals = h.2; right = g; end = is }) e
 
 pub value-ends : (a : Assigning) (r : RhsTree) (r_text so_far : List Token → List Token) (t : Token) → IsAssigning a → IsRhs r → ((rest : List Token) → rhs_text r rest ≡ r_text rest) →
     ((rest : List Token) → assigning_text a (r_text rest) ≡ so_far (t ∷ rest)) → Longer so_far t (ends_value a r r_text)
 value-ends a r r_text so_far t h g text e =
-    (λ end is. assigned-is a r (λ rest. assigning_text a (r_text rest)) end h g is (λ rest. ap (λ (x : List Token). assigning_text a x) (text (end ∷ rest))), e)
+    (λ end is. after_value-is a r (λ rest. assigning_text a (r_text rest)) end h g is (λ rest. ap (λ (x : List Token). assigning_text a x) (text (end ∷ rest))), e)
 
 pub enters : (o : Open) (lead : Lead) (so_far : List Token → List Token) (t : Token) → IsOpen o → IsLead lead → ((rest : List Token) → open_text o (lead_text lead rest) ≡ so_far (t ∷ rest)) → Longer so_far t (enter o lead)
 enters (Open.at u b) lead so_far t h g e = (λ opening is. (((h.0, h.1, g, is), tt), λ rest. refl), e)
@@ -112,24 +112,24 @@ push_arg-is : (part : ArgsPart) (a : ArgTree) → AreArgsPart part → IsArg a �
 push_arg-is ArgsPart.no_arg_yet a h g = g
 push_arg-is (ArgsPart.behind_arg list comma) a h g = (h.0, h.1, g)
 
-call-ended : (k : CallFor) (c : CallTree) (end : Token) → IsCallFor k → IsCall c → Is kind.Semicolon end → Longer (λ rest. call_for_text k (call_text c rest)) end (call_ended k c end)
+call-ended : (k : CallFor) (c : CallTree) (end : Token) → IsCallFor k → IsCall c → Is kind.Semicolon end → Longer (λ rest. call_for_text k (call_text c rest)) end (after_call k c end)
 call-ended (CallFor.to_stand o) c end h g is = added o (StmtTree.run_call c end) (λ rest. open_text o (call_text c rest)) end h (g, is) (λ rest. refl)
-call-ended (CallFor.to_assign a) c end h g is = assigned-is a (RhsTree.called c) (λ rest. assigning_text a (call_text c rest)) end h g is (λ rest. refl)
+call-ended (CallFor.to_assign a) c end h g is = after_value-is a (RhsTree.called c) (λ rest. assigning_text a (call_text c rest)) end h g is (λ rest. refl)
 
 pub call-closes : (c : CallPart) (list : Args) (so_far : List Token → List Token) (t : Token) → IsCallPart c → AreArgs list → Is kind.CloseParen t → ((rest : List Token) → call_part_text c (args_text list (t ∷ rest)) ≡ so_far (t ∷ rest)) → Longer so_far t (close_call c list t)
 call-closes (CallPart.call_part k recv dot name opening) list so_far t h g is e =
-    (λ end ends. call-ended k (CallTree.call recv dot name opening list t) end h.0 (h.1, h.2, h.3, h.4, g, is) ends, e)
+    (λ end ends. call-ended k (CallTree.call recv dot name opening list t) end h.0 (record { receiver = h.1; dot = h.2; name = h.3; opening = h.4; args = g; closing = is }) ends, e)
 
 method-ends : (b : BodyPart) (list : Stmts) (word : Token) (a : ArgTree) (end finish : Token) → IsBodyPart b → AreStmts list → Is kind.Return word → IsArg a → Is kind.Semicolon end → Is kind.CloseBrace finish →
     Longer (λ rest. body_part_text b (stmts_text list (word ∷ arg_text a (end ∷ rest)))) finish (end_method b list word a end finish)
 method-ends (BodyPart.body_part (MethodPart.method_part (ClassPart.class_part done class_word name opening so_far) ty method paren) ps closing p perm start) list word a end finish h hl hw ha he hf =
-    ((h.0.0.0, h.0.0.1, h.0.0.2, h.0.0.3, (h.0.0.4, (h.0.1, h.0.2, h.0.3, h.1, h.2, h.3, h.4, hl, hw, ha, he, hf))), λ rest. refl)
+    ((h.0.0.0, h.0.0.1, h.0.0.2, h.0.0.3, (h.0.0.4, record { ty = h.0.1; name = h.0.2; opening = h.0.3; params = h.1; closing = h.2; perm = h.3; start = h.4; body = hl; word = hw; back = ha; end = he; finish = hf })), λ rest. refl)
 
 pub finish-arg : (k : ArgFor) (a : ArgTree) (t : Token) (other : TokenKind) → Is other t → IsArgFor k → IsArg a → Extends (λ rest. arg_for_text k (arg_text a rest)) t (finish_arg k a t other)
 finish-arg (ArgFor.to_set o name dot member equals) a t kind.Semicolon is hk h =
-    added o (StmtTree.set_field name dot member equals a t) (λ rest. open_text o (name ∷ dot ∷ member ∷ equals ∷ arg_text a rest)) t hk.0 (hk.1, hk.2, hk.3, hk.4, h, is) (λ rest. refl)
+    added o (StmtTree.set_field name dot member equals a t) (λ rest. open_text o (name ∷ dot ∷ member ∷ equals ∷ arg_text a rest)) t hk.0 (record { name = hk.1; dot = hk.2; member = hk.3; equals = hk.4; value = h; end = is }) (λ rest. refl)
 finish-arg (ArgFor.to_set o name dot member equals) a t _ is hk h = tt
-finish-arg (ArgFor.to_value g) a t kind.Semicolon is hk h = assigned-is g (RhsTree.value a) (λ rest. assigning_text g (arg_text a rest)) t hk h is (λ rest. refl)
+finish-arg (ArgFor.to_value g) a t kind.Semicolon is hk h = after_value-is g (RhsTree.value a) (λ rest. assigning_text g (arg_text a rest)) t hk h is (λ rest. refl)
 finish-arg (ArgFor.to_value g) a t _ is hk h = tt
 finish-arg (ArgFor.to_pass c part) a t kind.Comma is hk h = ((hk.0, (push_arg-is part a hk.1 h, is)), λ rest. ap (λ (x : List Token). call_part_text c x) (push_arg-text part a (t ∷ rest)))
 finish-arg (ArgFor.to_pass c part) a t kind.CloseParen is hk h =
@@ -151,13 +151,13 @@ finishes (Purpose.to_while o word opening) e t _ is hk h = tt
 finishes (Purpose.to_index o name opening) e t kind.CloseBracket is hk h = (λ equals eq. ((tt, (hk.0, hk.1, hk.2, h, is, eq)), λ rest. refl), λ rest. refl)
 finishes (Purpose.to_index o name opening) e t _ is hk h = tt
 finishes (Purpose.to_item o name opening i closing equals) e t kind.Semicolon is hk h =
-    added o (StmtTree.set_item name opening i closing equals e t) (λ rest. open_text o (name ∷ opening ∷ expr_text i (closing ∷ equals ∷ expr_text e rest))) t hk.0 (hk.1, hk.2, hk.3, hk.4, hk.5, h, is) (λ rest. refl)
+    added o (StmtTree.set_item name opening i closing equals e t) (λ rest. open_text o (name ∷ opening ∷ expr_text i (closing ∷ equals ∷ expr_text e rest))) t hk.0 (record { name = hk.1; opening = hk.2; index = hk.3; closing = hk.4; equals = hk.5; value = h; end = is }) (λ rest. refl)
 finishes (Purpose.to_item o name opening i closing equals) e t _ is hk h = tt
 finishes (Purpose.to_read a name opening) e t kind.CloseBracket is hk h =
-    value-ends a (RhsTree.item name opening e t) (λ rest. name ∷ opening ∷ expr_text e (t ∷ rest)) (λ rest. assigning_text a (name ∷ opening ∷ expr_text e rest)) t hk.0 (hk.1, hk.2, h, is) (λ rest. refl) (λ rest. refl)
+    value-ends a (RhsTree.item name opening e t) (λ rest. name ∷ opening ∷ expr_text e (t ∷ rest)) (λ rest. assigning_text a (name ∷ opening ∷ expr_text e rest)) t hk.0 (record { name = hk.1; opening = hk.2; index = h; closing = is }) (λ rest. refl) (λ rest. refl)
 finishes (Purpose.to_read a name opening) e t _ is hk h = tt
 finishes (Purpose.to_length a word long opening) e t kind.CloseBracket is hk h =
-    value-ends a (RhsTree.new_array word long opening e t) (λ rest. word ∷ long ∷ opening ∷ expr_text e (t ∷ rest)) (λ rest. assigning_text a (word ∷ long ∷ opening ∷ expr_text e rest)) t hk.0 (hk.1, hk.2, hk.3, h, is) (λ rest. refl) (λ rest. refl)
+    value-ends a (RhsTree.new_array word long opening e t) (λ rest. word ∷ long ∷ opening ∷ expr_text e (t ∷ rest)) (λ rest. assigning_text a (word ∷ long ∷ opening ∷ expr_text e rest)) t hk.0 (record { word = hk.1; long = hk.2; opening = hk.3; size = h; closing = is }) (λ rest. refl) (λ rest. refl)
 finishes (Purpose.to_length a word long opening) e t _ is hk h = tt
 
 pub behind-is : (e : ExprTree) (ps : List Pending) (k : Purpose) (t : Token) (other : TokenKind) (o : Option BinaryOp) → op_of other ≡ o → Is other t →

@@ -12,7 +12,7 @@ use Rattle.perm_tree.specs.declared.tokens.TokenKind.TheVariants as kind
 use Rattle.perm_parse.specs.Grammar.{TypeTree, ExprTree, ArgTree, Args, RecvTree, CallTree, TargetTree, RhsTree, BlockTree, StmtTree, Stmts, Is, IsVar, IsType, IsExpr, AreArgs, IsRecv, IsCall, IsTarget, IsRhs, IsBlock, IsStmt, AreStmts, perm_word, sign, type_text, expr_text, args_text, recv_text, call_text, target_text, rhs_text, block_text, stmt_text, stmts_text}
 use Rattle.perm_parse.specs.Levels.{args_levels, call_levels, target_levels, rhs_levels, block_levels, stmt_levels, stmts_levels}
 use Rattle.perm_parse.specs.States.{Purpose, TypeFor, ArgFor, CallFor, CallPart, Lead, Outer, Open, Assigning, State, level_state, level_outer, level_open, level_assigning, level_call_for}
-use Rattle.perm_parse.specs.Machine.{step_as, step_type, taken, enter, closed, add_if, call_ended, op_of, walk, noted}
+use Rattle.perm_parse.specs.Machine.{step_as, step_type, state_if, enter, after_block, add_if, after_call, op_of, walk, note_level}
 use Rattle.perm_parse.proofs.OneAnswer.Runs.{Runs, stop, go, via}
 use Rattle.perm_parse.proofs.OneAnswer.ExpressionRuns.{op_of-sign}
 use Rattle.perm_parse.proofs.OneAnswer.ArgumentRuns.{Begins, BeginsType, expr, arg, args, type, go_var, from_same, same_at, same_at-expr}
@@ -39,7 +39,7 @@ type-no-else : (ty : TypeTree) (rest : List Token) → IsType ty → NoElse (typ
 type-no-else (TypeTree.long_type t) rest h = λ e. other_kind t kind.Long (λ x. cc) h e
 type-no-else (TypeTree.bool_type t) rest h = λ e. other_kind t kind.Bool (λ x. cc) h e
 type-no-else (TypeTree.object_type p word name) rest h = λ e. other_kind word (perm_word p) (perm-no-else p) h.0 e
-type-no-else (TypeTree.array_type p word long opening closing) rest h = λ e. other_kind word (perm_word p) (perm-no-else p) h.0 e
+type-no-else (TypeTree.array_type p word long opening closing) rest h = λ e. other_kind word (perm_word p) (perm-no-else p) h.perm e
 
 var-no-else : (t : Token) → IsVar t → Is kind.Else t → ⊥
 var-no-else t (inl h) e = other_kind t kind.Name (λ x. cc) h e
@@ -47,19 +47,19 @@ var-no-else t (inr h) e = other_kind t kind.This (λ x. cc) h e
 
 recv-no-else : (recv : RecvTree) (rest : List Token) → IsRecv recv → NoElse (recv_text recv rest)
 recv-no-else (RecvTree.lent name) rest h = λ e. var-no-else name h e
-recv-no-else (RecvTree.given opening word name closing) rest h = λ e. other_kind opening kind.OpenParen (λ x. cc) h.0 e
+recv-no-else (RecvTree.given opening word name closing) rest h = λ e. other_kind opening kind.OpenParen (λ x. cc) h.opening e
 
 pub stmt-no-else : (x : StmtTree) (rest : List Token) → IsStmt x → NoElse (stmt_text x rest)
 stmt-no-else (StmtTree.declare ty name end) rest h = type-no-else ty (name ∷ end ∷ rest) h.0
-stmt-no-else (StmtTree.assign (TargetTree.known name) equals r end) rest h = λ e. other_kind name kind.Name (λ x. cc) h.0 e
-stmt-no-else (StmtTree.assign (TargetTree.declared ty name) equals r end) rest h = type-no-else ty (name ∷ equals ∷ rhs_text r (end ∷ rest)) h.0.0
-stmt-no-else (StmtTree.set_field name dot member equals a end) rest h = λ e. var-no-else name h.0 e
-stmt-no-else (StmtTree.set_item name opening i closing equals v end) rest h = λ e. var-no-else name h.0 e
-stmt-no-else (StmtTree.run_call (CallTree.call recv dot name opening list closing) end) rest h = recv-no-else recv _ h.0.0
+stmt-no-else (StmtTree.assign (TargetTree.known name) equals r end) rest h = λ e. other_kind name kind.Name (λ x. cc) h.target e
+stmt-no-else (StmtTree.assign (TargetTree.declared ty name) equals r end) rest h = type-no-else ty (name ∷ equals ∷ rhs_text r (end ∷ rest)) h.target.0
+stmt-no-else (StmtTree.set_field name dot member equals a end) rest h = λ e. var-no-else name h.name e
+stmt-no-else (StmtTree.set_item name opening i closing equals v end) rest h = λ e. var-no-else name h.name e
+stmt-no-else (StmtTree.run_call (CallTree.call recv dot name opening list closing) end) rest h = recv-no-else recv _ h.0.receiver
 stmt-no-else (StmtTree.print word v end) rest h = λ e. other_kind word kind.Print (λ x. cc) h.0 e
-stmt-no-else (StmtTree.if_then word opening v closing a) rest h = λ e. other_kind word kind.If (λ x. cc) h.0 e
-stmt-no-else (StmtTree.if_else word opening v closing a otherwise b) rest h = λ e. other_kind word kind.If (λ x. cc) h.0 e
-stmt-no-else (StmtTree.repeat word opening v closing a) rest h = λ e. other_kind word kind.While (λ x. cc) h.0 e
+stmt-no-else (StmtTree.if_then word opening v closing a) rest h = λ e. other_kind word kind.If (λ x. cc) h.word e
+stmt-no-else (StmtTree.if_else word opening v closing a otherwise b) rest h = λ e. other_kind word kind.If (λ x. cc) h.word e
+stmt-no-else (StmtTree.repeat word opening v closing a) rest h = λ e. other_kind word kind.While (λ x. cc) h.word e
 stmt-no-else (StmtTree.par word a b) rest h = λ e. other_kind word kind.Par (λ x. cc) h.0 e
 
 -- an `if` with no `else`, at the token behind its block
@@ -71,7 +71,7 @@ same-then o word opening e closing a t _ h = refl
 pub then-ends : (u : Outer) (b : Stmts) (word opening : Token) (e : ExprTree) (closing : Token) (a : BlockTree) (rest : List Token) → NoElse rest →
     Runs (State.after_then (Open.at u b) word opening e closing a) rest (λ ls. ls) (State.listing (Open.at u (Stmts.more_stmts b (StmtTree.if_then word opening e closing a)))) rest
 then-ends u b word opening e closing a [] h = absurd h
-then-ends u b word opening e closing a (t ∷ ts) h = record { same = ap (λ (x : Option State). noted x (λ r. walk r ts)) (same-then (Open.at u b) word opening e closing a t t.kind h) }
+then-ends u b word opening e closing a (t ∷ ts) h = record { same = ap (λ (x : Option State). note_level x (λ r. walk r ts)) (same-then (Open.at u b) word opening e closing a t t.kind h) }
 
 -- ---- a type that begins a statement
 
@@ -89,7 +89,7 @@ target : (u : Outer) (b : Stmts) (x : TargetTree) (equals : Token) → IsTarget 
     Runs (State.value_due (Assigning.assigning (Open.at u b) x equals)) rest levels s last →
     Runs (State.listing (Open.at u b)) (target_text x (equals ∷ rest)) (λ ls. target_levels (level_outer u) x (level_outer u ∷ levels ls)) s last
 target u b (TargetTree.known name) equals h is next =
-    go h refl (go is (ap (λ (x : TokenKind). taken (sameb the_type kind.Name x) (State.value_due (Assigning.assigning (Open.at u b) (TargetTree.known name) equals))) h) next)
+    go h refl (go is (ap (λ (x : TokenKind). state_if (sameb the_type kind.Name x) (State.value_due (Assigning.assigning (Open.at u b) (TargetTree.known name) equals))) h) next)
 target u b (TargetTree.declared ty name) equals h is next =
     type (State.listing (Open.at u b)) (TypeFor.to_local (Open.at u b)) (λ t o x. local-type (Open.at u b) t o x) ty h.0 (go h.1 refl (go is refl next))
 
@@ -97,30 +97,30 @@ target u b (TargetTree.declared ty name) equals h is next =
 
 call-tail : (k : CallFor) (recv : RecvTree) (dot name opening : Token) (list : Args) (closing end : Token) → AreArgs list → Is kind.CloseParen closing → Is kind.Semicolon end →
     {rest : List Token} {levels : List ℕ → List ℕ} {s : State} {last : List Token} →
-    Runs (call_ended k (CallTree.call recv dot name opening list closing) end) rest levels s last →
+    Runs (after_call k (CallTree.call recv dot name opening list closing) end) rest levels s last →
     Runs (State.args_due (CallPart.call_part k recv dot name opening)) (args_text list (closing ∷ end ∷ rest))
-    (λ ls. args_levels (level_call_for k + 1) list (level_call_for k ∷ level_state (call_ended k (CallTree.call recv dot name opening list closing) end) ∷ levels ls)) s last
+    (λ ls. args_levels (level_call_for k + 1) list (level_call_for k ∷ level_state (after_call k (CallTree.call recv dot name opening list closing) end) ∷ levels ls)) s last
 call-tail k recv dot name opening list closing end h is ends next = args (CallPart.call_part k recv dot name opening) list closing h is (go ends refl next)
 
 -- a call that stands alone
 call-stands : (o : Open) (c : CallTree) (end : Token) → IsCall c → Is kind.Semicolon end → {rest : List Token} {levels : List ℕ → List ℕ} {s : State} {last : List Token} →
-    Runs (call_ended (CallFor.to_stand o) c end) rest levels s last →
-    Runs (State.listing o) (call_text c (end ∷ rest)) (λ ls. call_levels (level_open o) c (level_state (call_ended (CallFor.to_stand o) c end) ∷ levels ls)) s last
+    Runs (after_call (CallFor.to_stand o) c end) rest levels s last →
+    Runs (State.listing o) (call_text c (end ∷ rest)) (λ ls. call_levels (level_open o) c (level_state (after_call (CallFor.to_stand o) c end) ∷ levels ls)) s last
 call-stands o (CallTree.call (RecvTree.lent receiver) dot name opening list closing) end h ends next =
-    go_var h.0 refl refl (go h.1 refl (go h.2 refl (go h.3 refl (call-tail (CallFor.to_stand o) (RecvTree.lent receiver) dot name opening list closing end h.4 h.5 ends next))))
+    go_var h.receiver refl refl (go h.dot refl (go h.name refl (go h.opening refl (call-tail (CallFor.to_stand o) (RecvTree.lent receiver) dot name opening list closing end h.args h.closing ends next))))
 call-stands o (CallTree.call (RecvTree.given paren word receiver paren') dot name opening list closing) end h ends next =
-    go h.0.0 refl (go h.0.1 refl (go_var h.0.2 refl refl (go h.0.3 refl (go h.1 refl (go h.2 refl (go h.3 refl
-    (call-tail (CallFor.to_stand o) (RecvTree.given paren word receiver paren') dot name opening list closing end h.4 h.5 ends next)))))))
+    go h.receiver.opening refl (go h.receiver.word refl (go_var h.receiver.name refl refl (go h.receiver.closing refl (go h.dot refl (go h.name refl (go h.opening refl
+    (call-tail (CallFor.to_stand o) (RecvTree.given paren word receiver paren') dot name opening list closing end h.args h.closing ends next)))))))
 
 -- a call on the right side
 call-assigned : (a : Assigning) (c : CallTree) (end : Token) → IsCall c → Is kind.Semicolon end → {rest : List Token} {levels : List ℕ → List ℕ} {s : State} {last : List Token} →
-    Runs (call_ended (CallFor.to_assign a) c end) rest levels s last →
-    Runs (State.value_due a) (call_text c (end ∷ rest)) (λ ls. call_levels (level_assigning a) c (level_state (call_ended (CallFor.to_assign a) c end) ∷ levels ls)) s last
+    Runs (after_call (CallFor.to_assign a) c end) rest levels s last →
+    Runs (State.value_due a) (call_text c (end ∷ rest)) (λ ls. call_levels (level_assigning a) c (level_state (after_call (CallFor.to_assign a) c end) ∷ levels ls)) s last
 call-assigned a (CallTree.call (RecvTree.lent receiver) dot name opening list closing) end h ends next =
-    go_var h.0 refl refl (go h.1 refl (go h.2 refl (go h.3 refl (call-tail (CallFor.to_assign a) (RecvTree.lent receiver) dot name opening list closing end h.4 h.5 ends next))))
+    go_var h.receiver refl refl (go h.dot refl (go h.name refl (go h.opening refl (call-tail (CallFor.to_assign a) (RecvTree.lent receiver) dot name opening list closing end h.args h.closing ends next))))
 call-assigned a (CallTree.call (RecvTree.given paren word receiver paren') dot name opening list closing) end h ends next =
-    go h.0.0 refl (go h.0.1 refl (go_var h.0.2 refl refl (go h.0.3 refl (go h.1 refl (go h.2 refl (go h.3 refl
-    (call-tail (CallFor.to_assign a) (RecvTree.given paren word receiver paren') dot name opening list closing end h.4 h.5 ends next)))))))
+    go h.receiver.opening refl (go h.receiver.word refl (go_var h.receiver.name refl refl (go h.receiver.closing refl (go h.dot refl (go h.name refl (go h.opening refl
+    (call-tail (CallFor.to_assign a) (RecvTree.given paren word receiver paren') dot name opening list closing end h.args h.closing ends next)))))))
 
 -- ---- an expression on the right side
 
@@ -162,7 +162,7 @@ value-operand a (ExprTree.null_word t) h c ts alone = same_at (State.value_due a
 value-operand a (ExprTree.variable t) h c ts alone =
     same-behind {q = State.value_due a} {r = State.operand [] (Purpose.to_arg (ArgFor.to_value a))} {x = State.value_named a t} {y = State.after (ExprTree.variable t) [] (Purpose.to_arg (ArgFor.to_value a))} {ts = c ∷ ts}
     (go_var h refl refl stop) (go_var h refl refl stop) refl
-    (ap (λ (x : Option State). noted x (λ r. walk r ts)) (named-alone a t c c.kind alone.0 alone.1))
+    (ap (λ (x : Option State). note_level x (λ r. walk r ts)) (named-alone a t c c.kind alone.0 alone.1))
 value-operand a (ExprTree.parens opening e closing) h c ts alone =
     let inner = State.operand [] (Purpose.inner [] (Purpose.to_arg (ArgFor.to_value a)) opening) in
     same-behind {q = State.value_due a} {r = State.operand [] (Purpose.to_arg (ArgFor.to_value a))} {x = State.paren_seen a opening} {y = inner} {ts = expr_text e (closing ∷ c ∷ ts)}
@@ -170,7 +170,7 @@ value-operand a (ExprTree.parens opening e closing) h c ts alone =
     (same_at-expr (State.paren_seen a opening) inner (λ t o b. paren-operand a opening t o b) e h.1 (closing ∷ c ∷ ts))
 value-operand a (ExprTree.unary unary_op.Minus t e) h c ts alone = same_at (State.value_due a) (State.operand [] (Purpose.to_arg (ArgFor.to_value a))) t (expr_text e (c ∷ ts)) kind.Minus h.0 refl
 value-operand a (ExprTree.unary unary_op.Not t e) h c ts alone = same_at (State.value_due a) (State.operand [] (Purpose.to_arg (ArgFor.to_value a))) t (expr_text e (c ∷ ts)) kind.Bang h.0 refl
-value-operand a (ExprTree.binary o x t y) h c ts alone = value-operand a x h.0 t (expr_text y (c ∷ ts)) (sign-alone o t h.1)
+value-operand a (ExprTree.binary o x t y) h c ts alone = value-operand a x h.left t (expr_text y (c ∷ ts)) (sign-alone o t h.operator)
 
 kind-alone : (t : Token) (wanted : TokenKind) → Is wanted t → (wanted ≡ kind.Dot → ⊥) → (wanted ≡ kind.OpenBracket → ⊥) → Alone t
 kind-alone t wanted is h g = (λ e. h (sym is ∙ e), λ e. g (sym is ∙ e))
@@ -186,20 +186,20 @@ mutual
       (expr (Purpose.to_arg (ArgFor.to_value a)) e end h is refl refl stop)
   rhs u b x equals (RhsTree.value (ArgTree.consumed word name)) end rest h is = go h.0 refl (go_var h.1 refl refl (go is refl stop))
   rhs u b x equals (RhsTree.field name dot member) end rest h is = go_var h.0 refl refl (go h.1 refl (go h.2 refl (go is refl stop)))
-  rhs u b x equals (RhsTree.take_field word name dot member) end rest h is = go h.0 refl (go_var h.1 refl refl (go h.2 refl (go h.3 refl (go is refl stop))))
+  rhs u b x equals (RhsTree.take_field word name dot member) end rest h is = go h.word refl (go_var h.name refl refl (go h.dot refl (go h.member refl (go is refl stop))))
   rhs u b x equals (RhsTree.item name opening e closing) end rest h is =
-      go_var h.0 refl refl (go h.1 refl (expr (Purpose.to_read (Assigning.assigning (Open.at u b) x equals) name opening) e closing h.2 h.3 refl refl (go is refl stop)))
-  rhs u b x equals (RhsTree.new_object word name opening closing) end rest h is = go h.0 refl (go h.1 refl (go h.2 refl (go h.3 refl (go is refl stop))))
+      go_var h.name refl refl (go h.opening refl (expr (Purpose.to_read (Assigning.assigning (Open.at u b) x equals) name opening) e closing h.index h.closing refl refl (go is refl stop)))
+  rhs u b x equals (RhsTree.new_object word name opening closing) end rest h is = go h.word refl (go h.name refl (go h.opening refl (go h.closing refl (go is refl stop))))
   rhs u b x equals (RhsTree.new_array word long opening e closing) end rest h is =
-      go h.0 refl (go h.1 refl (go h.2 refl (expr (Purpose.to_length (Assigning.assigning (Open.at u b) x equals) word long opening) e closing h.3 h.4 refl refl (go is refl stop))))
+      go h.word refl (go h.long refl (go h.opening refl (expr (Purpose.to_length (Assigning.assigning (Open.at u b) x equals) word long opening) e closing h.size h.closing refl refl (go is refl stop))))
   rhs u b x equals (RhsTree.called c) end rest h is = call-assigned (Assigning.assigning (Open.at u b) x equals) c end h is stop
   rhs u b x equals (RhsTree.recover word opening list give name semi closing) end rest h is =
-      go h.0 refl (go h.1 refl
-      (via (stmts (Outer.inside u b (Lead.recover_lead x equals word) opening) list (give ∷ name ∷ semi ∷ closing ∷ end ∷ rest) h.2 (no-else-at give (name ∷ semi ∷ closing ∷ end ∷ rest) kind.Give (λ e. cc) h.3))
-      (go h.3 refl (go h.4 refl (go h.5 refl (go h.6 refl (go is refl stop)))))))
+      go h.word refl (go h.opening refl
+      (via (stmts (Outer.inside u b (Lead.recover_lead x equals word) opening) list (give ∷ name ∷ semi ∷ closing ∷ end ∷ rest) h.body (no-else-at give (name ∷ semi ∷ closing ∷ end ∷ rest) kind.Give (λ e. cc) h.give))
+      (go h.give refl (go h.name refl (go h.end refl (go h.closing refl (go is refl stop)))))))
 
   -- a block behind what leads to it
-  pub block : (u : Outer) (b : Stmts) (lead : Lead) (x : BlockTree) (r : State) (rest : List Token) → IsBlock x → closed u b lead x ≡ Some r → level_state r ≡ level_outer u →
+  pub block : (u : Outer) (b : Stmts) (lead : Lead) (x : BlockTree) (r : State) (rest : List Token) → IsBlock x → after_block u b lead x ≡ Some r → level_state r ≡ level_outer u →
       Runs (enter (Open.at u b) lead) (block_text x rest) (block_levels (level_outer u) x) r rest
   block u b lead (BlockTree.block opening list closing) r rest h is level =
       subst (λ (n : ℕ). Runs (enter (Open.at u b) lead) (opening ∷ stmts_text list (closing ∷ rest)) (λ ls. (level_outer u + 1) ∷ stmts_levels (level_outer u + 1) list (n ∷ ls)) r rest) level
@@ -209,24 +209,24 @@ mutual
       Runs (State.listing (Open.at u b)) (stmt_text x rest) (stmt_levels (level_outer u) x) (State.listing (Open.at u (Stmts.more_stmts b x))) rest
   stmt u b (StmtTree.declare ty name end) rest h other =
       type (State.listing (Open.at u b)) (TypeFor.to_local (Open.at u b)) (λ t o x. local-type (Open.at u b) t o x) ty h.0 (go h.1 refl (go h.2 refl stop))
-  stmt u b (StmtTree.assign x equals r end) rest h other = target u b x equals h.0 h.1 (rhs u b x equals r end rest h.2 h.3)
+  stmt u b (StmtTree.assign x equals r end) rest h other = target u b x equals h.target h.equals (rhs u b x equals r end rest h.right h.end)
   stmt u b (StmtTree.set_field name dot member equals a end) rest h other =
-      go_var h.0 refl refl (go h.1 refl (go h.2 refl (go h.3 refl (arg (ArgFor.to_set (Open.at u b) name dot member equals) a end h.4 h.5 refl refl stop))))
+      go_var h.name refl refl (go h.dot refl (go h.member refl (go h.equals refl (arg (ArgFor.to_set (Open.at u b) name dot member equals) a end h.value h.end refl refl stop))))
   stmt u b (StmtTree.set_item name opening i closing equals e end) rest h other =
-      go_var h.0 refl refl (go h.1 refl (expr (Purpose.to_index (Open.at u b) name opening) i closing h.2 h.3 refl refl
-      (go h.4 refl (expr (Purpose.to_item (Open.at u b) name opening i closing equals) e end h.5 h.6 refl refl stop))))
+      go_var h.name refl refl (go h.opening refl (expr (Purpose.to_index (Open.at u b) name opening) i closing h.index h.closing refl refl
+      (go h.equals refl (expr (Purpose.to_item (Open.at u b) name opening i closing equals) e end h.value h.end refl refl stop))))
   stmt u b (StmtTree.run_call c end) rest h other = call-stands (Open.at u b) c end h.0 h.1 stop
   stmt u b (StmtTree.print word e end) rest h other = go h.0 refl (expr (Purpose.to_print (Open.at u b) word) e end h.1 h.2 refl refl stop)
   stmt u b (StmtTree.if_then word opening e closing a) rest h other =
-      go h.0 refl (go h.1 refl (expr (Purpose.to_if (Open.at u b) word opening) e closing h.2 h.3 refl refl
-      (via (block u b (Lead.then_lead word opening e closing) a (State.after_then (Open.at u b) word opening e closing a) rest h.4 refl refl) (then-ends u b word opening e closing a rest other))))
+      go h.word refl (go h.opening refl (expr (Purpose.to_if (Open.at u b) word opening) e closing h.test h.closing refl refl
+      (via (block u b (Lead.then_lead word opening e closing) a (State.after_then (Open.at u b) word opening e closing a) rest h.block refl refl) (then-ends u b word opening e closing a rest other))))
   stmt u b (StmtTree.if_else word opening e closing a otherwise c) rest h other =
-      go h.0 refl (go h.1 refl (expr (Purpose.to_if (Open.at u b) word opening) e closing h.2 h.3 refl refl
-      (via (block u b (Lead.then_lead word opening e closing) a (State.after_then (Open.at u b) word opening e closing a) (otherwise ∷ block_text c rest) h.4 refl refl)
-      (go h.5 refl (block u b (Lead.else_lead word opening e closing a otherwise) c (State.listing (Open.at u (Stmts.more_stmts b (StmtTree.if_else word opening e closing a otherwise c)))) rest h.6 refl refl)))))
+      go h.word refl (go h.opening refl (expr (Purpose.to_if (Open.at u b) word opening) e closing h.test h.closing refl refl
+      (via (block u b (Lead.then_lead word opening e closing) a (State.after_then (Open.at u b) word opening e closing a) (otherwise ∷ block_text c rest) h.first refl refl)
+      (go h.otherwise refl (block u b (Lead.else_lead word opening e closing a otherwise) c (State.listing (Open.at u (Stmts.more_stmts b (StmtTree.if_else word opening e closing a otherwise c)))) rest h.second refl refl)))))
   stmt u b (StmtTree.repeat word opening e closing a) rest h other =
-      go h.0 refl (go h.1 refl (expr (Purpose.to_while (Open.at u b) word opening) e closing h.2 h.3 refl refl
-      (block u b (Lead.while_lead word opening e closing) a (State.listing (Open.at u (Stmts.more_stmts b (StmtTree.repeat word opening e closing a)))) rest h.4 refl refl)))
+      go h.word refl (go h.opening refl (expr (Purpose.to_while (Open.at u b) word opening) e closing h.test h.closing refl refl
+      (block u b (Lead.while_lead word opening e closing) a (State.listing (Open.at u (Stmts.more_stmts b (StmtTree.repeat word opening e closing a)))) rest h.block refl refl)))
   stmt u b (StmtTree.par word a c) rest h other =
       go h.0 refl (via (block u b (Lead.left_lead word) a (enter (Open.at u b) (Lead.right_lead word a)) (block_text c rest) h.1 refl refl)
       (block u b (Lead.right_lead word a) c (State.listing (Open.at u (Stmts.more_stmts b (StmtTree.par word a c)))) rest h.2 refl refl))

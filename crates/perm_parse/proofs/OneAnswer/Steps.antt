@@ -9,9 +9,9 @@ use Rattle.perm_tree.specs.declared.tokens.TokenKind.{TokenKind}
 use Rattle.perm_tree.specs.declared.tokens.TokenKind.TheVariants as kind
 use Rattle.perm_parse.specs.Grammar.{TypeTree, ExprTree, ArgTree, Args, TargetTree, RhsTree, BlockTree, StmtTree, Stmts, ParamList, Params, Classes, Is, IsVar, IsType, IsExpr, IsBlock, AreStmts, IsParamList, AreParams, IsProgram, perm_word, type_text, expr_text, target_text, block_text, stmts_text, param_list_text, params_text, program_text}
 use Rattle.perm_parse.specs.States.{ClassPart, MethodPart, ParamsPart, Lead, Outer, Open, Assigning, CallFor, CallPart, ArgsPart, ArgFor, Purpose, TypeFor, Wanted, State, class_part_text, method_part_text, params_part_text, outer_text, open_text, assigning_text, call_for_text, call_part_text, arg_for_text, type_for_text}
-use Rattle.perm_parse.specs.Machine.{step_as, step_arg, step_args, step_type, step_perm_seen, step_classes, step_in_class, step_member_named, step_params, step_param_named, step_perm, step_listing, step_after_then, step_local_named, step_begun, step_member_seen, step_value, step_value_named, step_value_member, step_value_consumed, step_paren, step_new, op_of, suits, taken, closed, gives, add_if, gives_receiver, end_class, end_field, opens_body, typed, type_named, push_param, close_block, give_block, return_block, is_variable}
+use Rattle.perm_parse.specs.Machine.{step_as, step_arg, step_args, step_type, step_perm_seen, step_classes, step_in_class, step_member_named, step_params, step_param_named, step_perm, step_listing, step_after_then, step_local_named, step_begun, step_member_seen, step_value, step_value_named, step_value_member, step_value_consumed, step_paren, step_new, op_of, suits, state_if, after_block, gives, add_if, gives_receiver, end_class, end_field, opens_body, after_type, after_named_type, push_param, close_block, give_block, return_block, is_variable}
 use Rattle.perm_parse.proofs.OneAnswer.GoodStates.{state_text, IsState, IsClassPart, IsMethodPart, AreParamsPart, IsLead, IsOuter, IsOpen, IsAssigning, IsCallFor, IsCallPart, IsArgFor, IsTypeFor, Suits}
-use Rattle.perm_parse.proofs.OneAnswer.Soundness.{Longer, Extends, operand, behind-is, added, assigned-is, value-ends, enters, call-closes, finish-arg}
+use Rattle.perm_parse.proofs.OneAnswer.Soundness.{Longer, Extends, operand, behind-is, added, after_value-is, value-ends, enters, call-closes, finish-arg}
 
 -- ---- types
 
@@ -21,19 +21,19 @@ push_param-text (ParamsPart.behind_param list comma) ty name rest = refl
 
 push_param-is : (part : ParamsPart) (ty : TypeTree) (name : Token) → AreParamsPart part → IsType ty → Is kind.Name name → IsParamList (push_param part ty name)
 push_param-is ParamsPart.no_param_yet ty name h g n = (g, n)
-push_param-is (ParamsPart.behind_param list comma) ty name h g n = (h.0, h.1, g, n)
+push_param-is (ParamsPart.behind_param list comma) ty name h g n = record { list = h.0; comma = h.1; ty = g; name = n }
 
-named : (k : TypeFor) (ty : TypeTree) (name : Token) → IsTypeFor k → IsType ty → Is kind.Name name → Longer (λ rest. type_for_text k (type_text ty rest)) name (type_named k ty name)
+named : (k : TypeFor) (ty : TypeTree) (name : Token) → IsTypeFor k → IsType ty → Is kind.Name name → Longer (λ rest. type_for_text k (type_text ty rest)) name (after_named_type k ty name)
 named (TypeFor.to_member c) ty name hk h is = ((hk, h, is), λ rest. refl)
 named (TypeFor.to_param part list) ty name hk h is = ((hk.0, push_param-is list ty name hk.1 h is), λ rest. ap (λ (x : List Token). method_part_text part x) (push_param-text list ty name rest))
 named (TypeFor.to_local o) ty name hk h is = ((hk, h, is), λ rest. refl)
 
-typed-is : (k : TypeFor) (ty : TypeTree) (so_far : List Token → List Token) (t : Token) → IsTypeFor k → IsType ty → ((rest : List Token) → type_for_text k (type_text ty rest) ≡ so_far (t ∷ rest)) → Longer so_far t (typed k ty)
-typed-is k ty so_far t hk h e = (λ name is. named k ty name hk h is, e)
+after_type-is : (k : TypeFor) (ty : TypeTree) (so_far : List Token → List Token) (t : Token) → IsTypeFor k → IsType ty → ((rest : List Token) → type_for_text k (type_text ty rest) ≡ so_far (t ∷ rest)) → Longer so_far t (after_type k ty)
+after_type-is k ty so_far t hk h e = (λ name is. named k ty name hk h is, e)
 
 type : (k : TypeFor) (t : Token) (other : TokenKind) → Is other t → IsTypeFor k → Extends (λ rest. type_for_text k rest) t (step_type k t other)
-type k t kind.Long is hk = typed-is k (TypeTree.long_type t) (λ rest. type_for_text k rest) t hk is (λ rest. refl)
-type k t kind.Bool is hk = typed-is k (TypeTree.bool_type t) (λ rest. type_for_text k rest) t hk is (λ rest. refl)
+type k t kind.Long is hk = after_type-is k (TypeTree.long_type t) (λ rest. type_for_text k rest) t hk is (λ rest. refl)
+type k t kind.Bool is hk = after_type-is k (TypeTree.bool_type t) (λ rest. type_for_text k rest) t hk is (λ rest. refl)
 type k t kind.Isolated is hk = ((hk, is), λ rest. refl)
 type k t kind.Immutable is hk = ((hk, is), λ rest. refl)
 type k t kind.Readable is hk = ((hk, is), λ rest. refl)
@@ -41,9 +41,9 @@ type k t kind.Writable is hk = ((hk, is), λ rest. refl)
 type k t _ is hk = tt
 
 perm-seen : (k : TypeFor) (p : Perm) (word t : Token) (other : TokenKind) → Is other t → IsTypeFor k → Is (perm_word p) word → Extends (λ rest. type_for_text k (word ∷ rest)) t (step_perm_seen k p word t other)
-perm-seen k p word t kind.Name is hk h = typed-is k (TypeTree.object_type p word t) (λ rest. type_for_text k (word ∷ rest)) t hk (h, is) (λ rest. refl)
+perm-seen k p word t kind.Name is hk h = after_type-is k (TypeTree.object_type p word t) (λ rest. type_for_text k (word ∷ rest)) t hk (h, is) (λ rest. refl)
 perm-seen k p word t kind.Long is hk h =
-    (λ opening o. (λ closing c. typed-is k (TypeTree.array_type p word t opening closing) (λ rest. type_for_text k (word ∷ t ∷ opening ∷ rest)) closing hk (h, is, o, c) (λ rest. refl), λ rest. refl), λ rest. refl)
+    (λ opening o. (λ closing c. after_type-is k (TypeTree.array_type p word t opening closing) (λ rest. type_for_text k (word ∷ t ∷ opening ∷ rest)) closing hk (record { perm = h; word = is; opening = o; closing = c }) (λ rest. refl), λ rest. refl), λ rest. refl)
 perm-seen k p word t _ is hk h = tt
 
 -- ---- classes and members
@@ -53,7 +53,7 @@ classes list t kind.Class is h = (λ name n. (λ opening o. ((h, is, n, o, tt), 
 classes list t _ is h = tt
 
 class-ends : (c : ClassPart) (t : Token) → IsClassPart c → Is kind.CloseBrace t → Longer (λ rest. class_part_text c rest) t (end_class c t)
-class-ends (ClassPart.class_part list word name opening so_far) t h is = ((h.0, h.1, h.2, h.3, h.4, is), λ rest. refl)
+class-ends (ClassPart.class_part list word name opening so_far) t h is = (record { list = h.0; word = h.1; name = h.2; opening = h.3; members = h.4; closing = is }, λ rest. refl)
 
 in-class : (c : ClassPart) (t : Token) (other : TokenKind) → Is other t → IsClassPart c → Extends (λ rest. class_part_text c rest) t (step_in_class c t other)
 in-class c t kind.CloseBrace is h = class-ends c t h is
@@ -91,10 +91,10 @@ receiver part list closing t _ is h g c = tt
 -- ---- blocks
 
 block-closes : (u : Outer) (c : Stmts) (lead : Lead) (opening : Token) (b : Stmts) (t : Token) → IsOuter u → AreStmts c → IsLead lead → Is kind.OpenBrace opening → AreStmts b → Is kind.CloseBrace t →
-    Extends (λ rest. outer_text (Outer.inside u c lead opening) (stmts_text b rest)) t (closed u c lead (BlockTree.block opening b t))
+    Extends (λ rest. outer_text (Outer.inside u c lead opening) (stmts_text b rest)) t (after_block u c lead (BlockTree.block opening b t))
 block-closes u c (Lead.then_lead word paren e closing) opening b t hu hc hl ho hb is = (((hu, hc), hl.0, hl.1, hl.2, hl.3, (ho, hb, is)), λ rest. refl)
-block-closes u c (Lead.else_lead word paren e closing a otherwise) opening b t hu hc hl ho hb is = ((hu, (hc, (hl.0, hl.1, hl.2, hl.3, hl.4, hl.5, (ho, hb, is)))), λ rest. refl)
-block-closes u c (Lead.while_lead word paren e closing) opening b t hu hc hl ho hb is = ((hu, (hc, (hl.0, hl.1, hl.2, hl.3, (ho, hb, is)))), λ rest. refl)
+block-closes u c (Lead.else_lead word paren e closing a otherwise) opening b t hu hc hl ho hb is = ((hu, (hc, record { word = hl.0; opening = hl.1; test = hl.2; closing = hl.3; first = hl.4; otherwise = hl.5; second = (ho, hb, is) })), λ rest. refl)
+block-closes u c (Lead.while_lead word paren e closing) opening b t hu hc hl ho hb is = ((hu, (hc, record { word = hl.0; opening = hl.1; test = hl.2; closing = hl.3; block = (ho, hb, is) })), λ rest. refl)
 block-closes u c (Lead.left_lead word) opening b t hu hc hl ho hb is =
     enters (Open.at u c) (Lead.right_lead word (BlockTree.block opening b t)) (λ rest. outer_text (Outer.inside u c (Lead.left_lead word) opening) (stmts_text b rest)) t (hu, hc) (hl, (ho, hb, is)) (λ rest. refl)
 block-closes u c (Lead.right_lead word a) opening b t hu hc hl ho hb is = ((hu, (hc, (hl.0, hl.1, (ho, hb, is)))), λ rest. refl)
@@ -107,7 +107,7 @@ closes (Open.at (Outer.inside u c lead opening) b) t h is = block-closes u c lea
 block-gives : (u : Outer) (c : Stmts) (lead : Lead) (opening : Token) (b : Stmts) (t : Token) → IsOuter u → AreStmts c → IsLead lead → Is kind.OpenBrace opening → AreStmts b → Is kind.Give t →
     Extends (λ rest. outer_text (Outer.inside u c lead opening) (stmts_text b rest)) t (gives u c lead opening b t)
 block-gives u c (Lead.recover_lead x equals word) opening b t hu hc hl ho hb is =
-    (λ name hn. (λ end he. (λ closing hg. (λ last ht. ((hu, (hc, (hl.0, hl.1, (hl.2, ho, hb, is, hn, he, hg), ht))), λ rest. refl), λ rest. refl), λ rest. refl), λ rest. refl), λ rest. refl)
+    (λ name hn. (λ end he. (λ closing hg. (λ last ht. ((hu, (hc, record { target = hl.0; equals = hl.1; right = record { word = hl.2; opening = ho; body = hb; give = is; name = hn; end = he; closing = hg }; end = ht })), λ rest. refl), λ rest. refl), λ rest. refl), λ rest. refl), λ rest. refl)
 block-gives u c (Lead.then_lead word paren e closing) opening b t hu hc hl ho hb is = tt
 block-gives u c (Lead.else_lead word paren e closing a otherwise) opening b t hu hc hl ho hb is = tt
 block-gives u c (Lead.while_lead word paren e closing) opening b t hu hc hl ho hb is = tt
@@ -127,7 +127,7 @@ returns (Open.at (Outer.inside u c lead opening) b) t h is = tt
 receiver-given : (k : CallFor) (opening word : Token) (so_far : List Token → List Token) (t : Token) → IsCallFor k → Is kind.OpenParen opening → Is kind.Consume word → ((rest : List Token) → call_for_text k (opening ∷ word ∷ rest) ≡ so_far (t ∷ rest)) →
     Longer so_far t (gives_receiver k opening word)
 receiver-given k opening word so_far t hk ho hw e =
-    (λ name hn. (λ closing hc. (λ dot hd. (λ member hm. (λ paren hp. ((hk, (ho, hw, hn, hc), hd, hm, hp), λ rest. refl), λ rest. refl), λ rest. refl), λ rest. refl), λ rest. refl), e)
+    (λ name hn. (λ closing hc. (λ dot hd. (λ member hm. (λ paren hp. ((hk, record { opening = ho; word = hw; name = hn; closing = hc }, hd, hm, hp), λ rest. refl), λ rest. refl), λ rest. refl), λ rest. refl), λ rest. refl), e)
 
 listing : (o : Open) (t : Token) (other : TokenKind) → Is other t → IsOpen o → Extends (λ rest. open_text o rest) t (step_listing o t other)
 listing o t kind.Name is h = ((h, inl is), λ rest. refl)
@@ -144,7 +144,7 @@ listing o t other is h = type (TypeFor.to_local o) t other is h
 
 if-added : (o : Open) (word opening : Token) (e : ExprTree) (closing : Token) (a : BlockTree) → IsOpen o → Is kind.If word → Is kind.OpenParen opening → IsExpr e → Is kind.CloseParen closing → IsBlock a →
     IsOpen (add_if o word opening e closing a) × ((rest : List Token) → open_text (add_if o word opening e closing a) rest ≡ open_text o (word ∷ opening ∷ expr_text e (closing ∷ block_text a rest)))
-if-added (Open.at u b) word opening e closing a h hw ho he hc ha = ((h.0, (h.1, (hw, ho, he, hc, ha))), λ rest. refl)
+if-added (Open.at u b) word opening e closing a h hw ho he hc ha = ((h.0, (h.1, record { word = hw; opening = ho; test = he; closing = hc; block = ha })), λ rest. refl)
 
 same-text : (x : Option State) (first second : List Token → List Token) (t : Token) → ((rest : List Token) → first rest ≡ second rest) → Extends first t x → Extends second t x
 same-text None first second t e h = tt
@@ -168,7 +168,7 @@ local-named o ty name t _ is h hy hn = tt
 begun : (o : Open) (name t : Token) (other : TokenKind) → Is other t → IsOpen o → IsVar name → Extends (λ rest. open_text o (name ∷ rest)) t (step_begun o name t other)
 begun o name t kind.Assign is h hn = only (sameb the_type kind.Name name.kind) refl
   where
-    only : (b : Bool) → sameb the_type kind.Name name.kind ≡ b → Extends (λ rest. open_text o (name ∷ rest)) t (taken b (State.value_due (Assigning.assigning o (TargetTree.known name) t)))
+    only : (b : Bool) → sameb the_type kind.Name name.kind ≡ b → Extends (λ rest. open_text o (name ∷ rest)) t (state_if b (State.value_due (Assigning.assigning o (TargetTree.known name) t)))
     only true e = ((h, sym (same_true the_type tt kind.Name name.kind e), is), λ rest. refl)
     only false e = tt
 begun o name t kind.Dot is h hn = (λ member m. ((h, hn, is, m), λ rest. refl), λ rest. refl)
@@ -197,14 +197,14 @@ value-named a name t kind.OpenBracket is h hn = ((tt, (h, hn, is)), λ rest. ref
 value-named a name t other is h hn = behind-is (ExprTree.variable name) [] (Purpose.to_arg (ArgFor.to_value a)) t other (op_of other) refl is hn refl tt h
 
 value-member : (a : Assigning) (name dot member t : Token) (other : TokenKind) → Is other t → IsAssigning a → IsVar name → Is kind.Dot dot → Is kind.Name member → Extends (λ rest. assigning_text a (name ∷ dot ∷ member ∷ rest)) t (step_value_member a name dot member t other)
-value-member a name dot member t kind.Semicolon is h hn hd hm = assigned-is a (RhsTree.field name dot member) (λ rest. assigning_text a (name ∷ dot ∷ member ∷ rest)) t h (hn, hd, hm) is (λ rest. refl)
+value-member a name dot member t kind.Semicolon is h hn hd hm = after_value-is a (RhsTree.field name dot member) (λ rest. assigning_text a (name ∷ dot ∷ member ∷ rest)) t h (hn, hd, hm) is (λ rest. refl)
 value-member a name dot member t kind.OpenParen is h hn hd hm = ((h, hn, hd, hm, is), λ rest. refl)
 value-member a name dot member t _ is h hn hd hm = tt
 
 value-consumed : (a : Assigning) (word name t : Token) (other : TokenKind) → Is other t → IsAssigning a → Is kind.Consume word → IsVar name → Extends (λ rest. assigning_text a (word ∷ name ∷ rest)) t (step_value_consumed a word name t other)
 value-consumed a word name t kind.Dot is h hw hn =
-    (λ member m. value-ends a (RhsTree.take_field word name t member) (λ rest. word ∷ name ∷ t ∷ member ∷ rest) (λ rest. assigning_text a (word ∷ name ∷ t ∷ rest)) member h (hw, hn, is, m) (λ rest. refl) (λ rest. refl), λ rest. refl)
-value-consumed a word name t kind.Semicolon is h hw hn = assigned-is a (RhsTree.value (ArgTree.consumed word name)) (λ rest. assigning_text a (word ∷ name ∷ rest)) t h (hw, hn) is (λ rest. refl)
+    (λ member m. value-ends a (RhsTree.take_field word name t member) (λ rest. word ∷ name ∷ t ∷ member ∷ rest) (λ rest. assigning_text a (word ∷ name ∷ t ∷ rest)) member h (record { word = hw; name = hn; dot = is; member = m }) (λ rest. refl) (λ rest. refl), λ rest. refl)
+value-consumed a word name t kind.Semicolon is h hw hn = after_value-is a (RhsTree.value (ArgTree.consumed word name)) (λ rest. assigning_text a (word ∷ name ∷ rest)) t h (hw, hn) is (λ rest. refl)
 value-consumed a word name t _ is h hw hn = tt
 
 paren : (a : Assigning) (opening t : Token) (other : TokenKind) → Is other t → IsAssigning a → Is kind.OpenParen opening → Extends (λ rest. assigning_text a (opening ∷ rest)) t (step_paren a opening t other)
@@ -213,7 +213,7 @@ paren a opening t other is h ho = operand [] (Purpose.inner [] (Purpose.to_arg (
 
 new : (a : Assigning) (word t : Token) (other : TokenKind) → Is other t → IsAssigning a → Is kind.New word → Extends (λ rest. assigning_text a (word ∷ rest)) t (step_new a word t other)
 new a word t kind.Name is h hw =
-    (λ opening o. (λ closing c. value-ends a (RhsTree.new_object word t opening closing) (λ rest. word ∷ t ∷ opening ∷ closing ∷ rest) (λ rest. assigning_text a (word ∷ t ∷ opening ∷ rest)) closing h (hw, is, o, c) (λ rest. refl) (λ rest. refl), λ rest. refl), λ rest. refl)
+    (λ opening o. (λ closing c. value-ends a (RhsTree.new_object word t opening closing) (λ rest. word ∷ t ∷ opening ∷ closing ∷ rest) (λ rest. assigning_text a (word ∷ t ∷ opening ∷ rest)) closing h (record { word = hw; name = is; opening = o; closing = c }) (λ rest. refl) (λ rest. refl), λ rest. refl), λ rest. refl)
 new a word t kind.Long is h hw = (λ opening o. ((tt, (h, hw, is, o)), λ rest. refl), λ rest. refl)
 new a word t _ is h hw = tt
 
@@ -238,10 +238,10 @@ suits-is : (wanted : Wanted) (t : Token) → suits wanted t.kind ≡ true → Su
 suits-is (Wanted.exactly k) t e = sym (same_true the_type tt k t.kind e)
 suits-is Wanted.a_variable t e = variable-is t t.kind refl e
 
-expected : (so_far : List Token → List Token) (d : ℕ) (wanted : Wanted) (next : Token → State) (t : Token) → IsState (State.expects so_far d wanted next) → Extends so_far t (taken (suits wanted t.kind) (next t))
+expected : (so_far : List Token → List Token) (d : ℕ) (wanted : Wanted) (next : Token → State) (t : Token) → IsState (State.expects so_far d wanted next) → Extends so_far t (state_if (suits wanted t.kind) (next t))
 expected so_far d wanted next t h = only (suits wanted t.kind) refl
   where
-    only : (b : Bool) → suits wanted t.kind ≡ b → Extends so_far t (taken b (next t))
+    only : (b : Bool) → suits wanted t.kind ≡ b → Extends so_far t (state_if b (next t))
     only true e = h t (suits-is wanted t e)
     only false e = tt
 

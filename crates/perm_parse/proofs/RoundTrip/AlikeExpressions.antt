@@ -104,16 +104,16 @@ renew_expr text other (ExprTree.unary o u e) us vs is h =
       };
     }
 renew_expr text other (ExprTree.binary o a u b) us vs is h =
-    let x = renew_expr text other a _ _ is.0 h in
+    let x = renew_expr text other a _ _ is.left h in
     let y = first x.rest in
-    let z = renew_expr text other b _ _ is.2 y.rest in
+    let z = renew_expr text other b _ _ is.right y.rest in
     record {
       tree = ExprTree.binary o x.tree y.token z.tree;
       behind = z.behind;
       spells = rw (z.spells, y.is, x.spells) refl;
       rest = z.rest;
       like = record {
-        is = (x.like.is, is-same y.alike is.1, z.like.is, (let k = x.like.loose in omega (arith, is.3)), (let k = z.like.loose in omega (arith, is.4)));
+        is = record { left = x.like.is; operator = is-same y.alike is.operator; right = z.like.is; left_level = (let k = x.like.loose in omega (arith, is.left_level)); right_level = (let k = z.like.loose in omega (arith, is.right_level)) };
         loose = refl;
         levels = λ i d ls. x.like.levels i d (i ∷ expr_levels i d z.tree ls) ∙ ap (λ w. expr_levels i d a (i ∷ w)) (z.like.levels i d ls);
         means = λ s t k.
@@ -260,9 +260,9 @@ renew_recv text other (RecvTree.given opening word name closing) us vs is h =
       spells = rw (w.is, z.is, y.is, x.is) refl;
       rest = w.rest;
       like = record {
-        is = (is-same x.alike is.0, is-same y.alike is.1, var-is z.alike is.2, is-same w.alike is.3);
+        is = record { opening = is-same x.alike is.opening; word = is-same y.alike is.word; name = var-is z.alike is.name; closing = is-same w.alike is.closing };
         levels = λ d ls. refl;
-        means = λ s t k. let m = var-same s t z.alike is.2 k in record { consumed = refl; ident = m.ident; rest = m.rest };
+        means = λ s t k. let m = var-same s t z.alike is.name k in record { consumed = refl; ident = m.ident; rest = m.rest };
       };
     }
 
@@ -277,11 +277,11 @@ pub record LikeCall (text other : List ℕ) (a b : CallTree) : Type 0 where
 
 pub renew_call : (text other : List ℕ) (a : CallTree) (us vs : List Token) → IsCall a → Follow text other (call_text a us) vs → Renewed text other call_text (LikeCall text other a) us vs
 renew_call text other (CallTree.call recv dot name opening list closing) us vs is h =
-    let x = renew_recv text other recv _ _ is.0 h in
+    let x = renew_recv text other recv _ _ is.receiver h in
     let y = first x.rest in
     let z = first y.rest in
     let w = first z.rest in
-    let l = renew_args text other list _ _ is.4 w.rest in
+    let l = renew_args text other list _ _ is.args w.rest in
     let c = first l.rest in
     record {
       tree = CallTree.call x.tree y.token z.token w.token l.tree c.token;
@@ -289,11 +289,11 @@ renew_call text other (CallTree.call recv dot name opening list closing) us vs i
       spells = rw (c.is, l.spells, w.is, z.is, y.is, x.spells) refl;
       rest = c.rest;
       like = record {
-        is = (x.like.is, is-same y.alike is.1, is-same z.alike is.2, is-same w.alike is.3, l.like.is, is-same c.alike is.5);
+        is = record { receiver = x.like.is; dot = is-same y.alike is.dot; name = is-same z.alike is.name; opening = is-same w.alike is.opening; args = l.like.is; closing = is-same c.alike is.closing };
         levels = λ d ls. x.like.levels d _ ∙ ap (λ ks. recv_levels d recv (d ∷ d ∷ (d + 1) ∷ ks)) (l.like.levels (d + 1) (d ∷ ls));
         means = λ s t k.
             let m = x.like.means s t k in
-            let n = ident-same _ _ z.alike is.2 m.rest in
+            let n = ident-same _ _ z.alike is.name m.rest in
             let o = l.like.means _ _ n.rest in
             record { call = λ i. record { consumed = m.consumed i; on = m.ident i; «method» = n.ident i; args = o.args i }; rest = o.rest };
       };

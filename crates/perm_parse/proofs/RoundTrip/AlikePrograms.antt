@@ -43,9 +43,9 @@ renew_param_list text other (ParamList.one_param ty name) us vs is h =
       };
     }
 renew_param_list text other (ParamList.more_params list comma ty name) us vs is h =
-    let l = renew_param_list text other list _ _ is.0 h in
+    let l = renew_param_list text other list _ _ is.list h in
     let c = first l.rest in
-    let x = renew_type text other ty _ _ is.2 c.rest in
+    let x = renew_type text other ty _ _ is.ty c.rest in
     let y = first x.rest in
     record {
       tree = ParamList.more_params l.tree c.token x.tree y.token;
@@ -53,12 +53,12 @@ renew_param_list text other (ParamList.more_params list comma ty name) us vs is 
       spells = rw (y.is, x.spells, c.is, l.spells) refl;
       rest = y.rest;
       like = record {
-        is = (l.like.is, is-same c.alike is.1, x.like.is, is-same y.alike is.3);
+        is = record { list = l.like.is; comma = is-same c.alike is.comma; ty = x.like.is; name = is-same y.alike is.name };
         levels = λ d ls. l.like.levels d _ ∙ ap (λ ks. param_list_levels d list (d ∷ ks)) (x.like.levels d (d ∷ ls));
         means = λ s t k.
             let o = l.like.means s t k in
             let m = x.like.means _ _ o.rest in
-            let n = ident-same _ _ y.alike is.3 m.rest in
+            let n = ident-same _ _ y.alike is.name m.rest in
             record { params = last-same clear_field _ _ _ _ o.params (λ i. record { ty = m.ty i; name = n.ident i }); rest = n.rest };
       };
     }
@@ -113,16 +113,16 @@ renew_member text other (MemberTree.field_member ty name end) us vs is h =
       };
     }
 renew_member text other (MemberTree.method ty name opening list closing p perm start b word a end finish) us vs is h =
-    let x1 = renew_type text other ty _ _ is.0 h in
+    let x1 = renew_type text other ty _ _ is.ty h in
     let x2 = first x1.rest in
     let x3 = first x2.rest in
-    let x4 = renew_params text other list _ _ is.3 x3.rest in
+    let x4 = renew_params text other list _ _ is.params x3.rest in
     let x5 = first x4.rest in
     let x6 = first x5.rest in
     let x7 = first x6.rest in
-    let x8 = renew_stmts text other b _ _ is.7 x7.rest in
+    let x8 = renew_stmts text other b _ _ is.body x7.rest in
     let x9 = first x8.rest in
-    let y1 = renew_arg text other a _ _ is.9 x9.rest in
+    let y1 = renew_arg text other a _ _ is.back x9.rest in
     let y2 = first y1.rest in
     let y3 = first y2.rest in
     record {
@@ -131,12 +131,12 @@ renew_member text other (MemberTree.method ty name opening list closing p perm s
       spells = rw (y3.is, y2.is, y1.spells, x9.is, x8.spells, x7.is, x6.is, x5.is, x4.spells, x3.is, x2.is, x1.spells) refl;
       rest = y3.rest;
       like = record {
-        is = (x1.like.is, is-same x2.alike is.1, is-same x3.alike is.2, x4.like.is, is-same x5.alike is.4, is-same x6.alike is.5, is-same x7.alike is.6, x8.like.is, is-same x9.alike is.8, y1.like.is, is-same y2.alike is.10, is-same y3.alike is.11);
+        is = record { ty = x1.like.is; name = is-same x2.alike is.name; opening = is-same x3.alike is.opening; params = x4.like.is; closing = is-same x5.alike is.closing; perm = is-same x6.alike is.perm; start = is-same x7.alike is.start; body = x8.like.is; word = is-same x9.alike is.word; back = y1.like.is; end = is-same y2.alike is.end; finish = is-same y3.alike is.finish };
         levels = λ ls. x1.like.levels 1 _ ∙ ap (λ ks. type_levels 1 ty (1 ∷ 2 ∷ ks)) (x4.like.levels 2 _
             ∙ ap (λ ks. params_levels 2 list (1 ∷ 1 ∷ 2 ∷ ks)) (x8.like.levels 2 _ ∙ ap (λ ks. stmts_levels 2 b (2 ∷ ks)) (y1.like.levels 2 (2 ∷ 1 ∷ ls))));
         means = λ fs gs ms ns s t k.
             let m1 = x1.like.means s t k.rest in
-            let m2 = ident-same _ _ x2.alike is.1 m1.rest in
+            let m2 = ident-same _ _ x2.alike is.name m1.rest in
             let m3 = x4.like.means _ _ m2.rest in
             let m4 = x8.like.means _ _ m3.rest in
             let m5 = y1.like.means _ _ m4.rest in
@@ -183,11 +183,11 @@ renew_classes : (text other : List ℕ) (a : Classes) (us vs : List Token) → I
 renew_classes text other Classes.no_classes us vs is h =
     record { tree = Classes.no_classes; behind = vs; spells = refl; rest = h; like = record { is = tt; levels = λ ls. refl; means = λ s t k. k } }
 renew_classes text other (Classes.more_classes list word name opening members closing) us vs is h =
-    let v = renew_classes text other list _ _ is.0 h in
+    let v = renew_classes text other list _ _ is.list h in
     let w = first v.rest in
     let x = first w.rest in
     let y = first x.rest in
-    let z = renew_members text other members _ _ is.4 y.rest in
+    let z = renew_members text other members _ _ is.members y.rest in
     let p = first z.rest in
     record {
       tree = Classes.more_classes v.tree w.token x.token y.token z.tree p.token;
@@ -195,11 +195,11 @@ renew_classes text other (Classes.more_classes list word name opening members cl
       spells = rw (p.is, z.spells, y.is, x.is, w.is, v.spells) refl;
       rest = p.rest;
       like = record {
-        is = (v.like.is, is-same w.alike is.1, is-same x.alike is.2, is-same y.alike is.3, z.like.is, is-same p.alike is.5);
+        is = record { list = v.like.is; word = is-same w.alike is.word; name = is-same x.alike is.name; opening = is-same y.alike is.opening; members = z.like.is; closing = is-same p.alike is.closing };
         levels = λ ls. v.like.levels _ ∙ ap (λ ks. program_levels list (0 ∷ 0 ∷ 1 ∷ ks)) (z.like.levels (0 ∷ ls));
         means = λ s t k.
             let m = v.like.means s t k in
-            let n = ident-same _ _ x.alike is.2 m in
+            let n = ident-same _ _ x.alike is.name m in
             let o = z.like.means _ _ n.rest in
             let more = last-same clear_class _ _ _ _ (ap (λ (q : Listing). q.classes) o.rest.same) (λ i. record { name = n.ident i; fields = o.fields i; methods = o.methods i }) in
             record { same = λ i. record (o.rest.same i) { classes = more i } };

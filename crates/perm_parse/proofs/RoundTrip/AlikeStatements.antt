@@ -142,18 +142,18 @@ mutual
         spells = rw (z.is, y.is, x.is, w.is) refl;
         rest = z.rest;
         like = record {
-          is = (is-same w.alike is.0, var-is x.alike is.1, is-same y.alike is.2, is-same z.alike is.3);
+          is = record { word = is-same w.alike is.word; name = var-is x.alike is.name; dot = is-same y.alike is.dot; member = is-same z.alike is.member };
           levels = λ d ls. refl;
           means = λ s t k.
-              let m = var-same s t x.alike is.1 k in
-              let n = ident-same _ _ z.alike is.3 m.rest in
+              let m = var-same s t x.alike is.name k in
+              let n = ident-same _ _ z.alike is.member m.rest in
               record { rhs = λ i. right.TakeField (m.ident i) (n.ident i); rest = n.rest };
         };
       }
   renew_rhs text other (RhsTree.item name opening e closing) us vs is h =
       let x = first h in
       let y = first x.rest in
-      let z = renew_expr text other e _ _ is.2 y.rest in
+      let z = renew_expr text other e _ _ is.index y.rest in
       let w = first z.rest in
       record {
         tree = RhsTree.item x.token y.token z.tree w.token;
@@ -161,10 +161,10 @@ mutual
         spells = rw (w.is, z.spells, y.is, x.is) refl;
         rest = w.rest;
         like = record {
-          is = (var-is x.alike is.0, is-same y.alike is.1, z.like.is, is-same w.alike is.3);
+          is = record { name = var-is x.alike is.name; opening = is-same y.alike is.opening; index = z.like.is; closing = is-same w.alike is.closing };
           levels = λ d ls. ap (λ ks. d ∷ (d + 1) ∷ ks) (z.like.levels (d + 1) (d + 1) (d ∷ ls));
           means = λ s t k.
-              let m = var-same s t x.alike is.0 k in
+              let m = var-same s t x.alike is.name k in
               let n = z.like.means _ _ m.rest in
               record { rhs = λ i. right.Item (m.ident i) (n.place i); rest = n.rest };
         };
@@ -180,16 +180,16 @@ mutual
         spells = rw (w.is, z.is, y.is, x.is) refl;
         rest = w.rest;
         like = record {
-          is = (is-same x.alike is.0, is-same y.alike is.1, is-same z.alike is.2, is-same w.alike is.3);
+          is = record { word = is-same x.alike is.word; name = is-same y.alike is.name; opening = is-same z.alike is.opening; closing = is-same w.alike is.closing };
           levels = λ d ls. refl;
-          means = λ s t k. let m = ident-same s t y.alike is.1 k in record { rhs = ap right.New m.ident; rest = push_mention-same _ _ _ _ m.ident m.rest };
+          means = λ s t k. let m = ident-same s t y.alike is.name k in record { rhs = ap right.New m.ident; rest = push_mention-same _ _ _ _ m.ident m.rest };
         };
       }
   renew_rhs text other (RhsTree.new_array word long opening e closing) us vs is h =
       let v = first h in
       let x = first v.rest in
       let y = first x.rest in
-      let z = renew_expr text other e _ _ is.3 y.rest in
+      let z = renew_expr text other e _ _ is.size y.rest in
       let w = first z.rest in
       record {
         tree = RhsTree.new_array v.token x.token y.token z.tree w.token;
@@ -197,7 +197,7 @@ mutual
         spells = rw (w.is, z.spells, y.is, x.is, v.is) refl;
         rest = w.rest;
         like = record {
-          is = (is-same v.alike is.0, is-same x.alike is.1, is-same y.alike is.2, z.like.is, is-same w.alike is.4);
+          is = record { word = is-same v.alike is.word; long = is-same x.alike is.long; opening = is-same y.alike is.opening; size = z.like.is; closing = is-same w.alike is.closing };
           levels = λ d ls. ap (λ ks. d ∷ d ∷ (d + 1) ∷ ks) (z.like.levels (d + 1) (d + 1) (d ∷ ls));
           means = λ s t k. let m = z.like.means s t k in record { rhs = ap right.NewArray m.place; rest = m.rest };
         };
@@ -218,7 +218,7 @@ mutual
   renew_rhs text other (RhsTree.recover word opening b give name end closing) us vs is h =
       let v = first h in
       let w = first v.rest in
-      let x = renew_stmts text other b _ _ is.2 w.rest in
+      let x = renew_stmts text other b _ _ is.body w.rest in
       let y = first x.rest in
       let z = first y.rest in
       let p = first z.rest in
@@ -229,11 +229,11 @@ mutual
         spells = rw (q.is, p.is, z.is, y.is, x.spells, w.is, v.is) refl;
         rest = q.rest;
         like = record {
-          is = (is-same v.alike is.0, is-same w.alike is.1, x.like.is, is-same y.alike is.3, is-same z.alike is.4, is-same p.alike is.5, is-same q.alike is.6);
+          is = record { word = is-same v.alike is.word; opening = is-same w.alike is.opening; body = x.like.is; give = is-same y.alike is.give; name = is-same z.alike is.name; end = is-same p.alike is.end; closing = is-same q.alike is.closing };
           levels = λ d ls. ap (λ ks. d ∷ (d + 1) ∷ ks) (x.like.levels (d + 1) _);
           means = λ s t k.
               let m = x.like.means s t k in
-              let n = ident-same _ _ z.alike is.4 m.rest in
+              let n = ident-same _ _ z.alike is.name m.rest in
               record { rhs = λ i. right.Recover (record { stmts = m.places i }) (n.ident i) no_span; rest = n.rest };
         };
       }
@@ -275,9 +275,9 @@ mutual
         };
       }
   renew_stmt text other (StmtTree.assign target equals r end) us vs is h =
-      let x = renew_target text other target _ _ is.0 h in
+      let x = renew_target text other target _ _ is.target h in
       let y = first x.rest in
-      let z = renew_rhs text other r _ _ is.2 y.rest in
+      let z = renew_rhs text other r _ _ is.right y.rest in
       let w = first z.rest in
       record {
         tree = StmtTree.assign x.tree y.token z.tree w.token;
@@ -285,7 +285,7 @@ mutual
         spells = rw (w.is, z.spells, y.is, x.spells) refl;
         rest = w.rest;
         like = record {
-          is = (x.like.is, is-same y.alike is.1, z.like.is, is-same w.alike is.3);
+          is = record { target = x.like.is; equals = is-same y.alike is.equals; right = z.like.is; end = is-same w.alike is.end };
           levels = λ d ls. x.like.levels d _ ∙ ap (λ ks. target_levels d target (d ∷ ks)) (z.like.levels d (d ∷ ls));
           means = λ s t k.
               let m = x.like.means s t k in
@@ -298,7 +298,7 @@ mutual
       let w = first v.rest in
       let x = first w.rest in
       let y = first x.rest in
-      let z = renew_arg text other a _ _ is.4 y.rest in
+      let z = renew_arg text other a _ _ is.value y.rest in
       let p = first z.rest in
       record {
         tree = StmtTree.set_field v.token w.token x.token y.token z.tree p.token;
@@ -306,11 +306,11 @@ mutual
         spells = rw (p.is, z.spells, y.is, x.is, w.is, v.is) refl;
         rest = p.rest;
         like = record {
-          is = (var-is v.alike is.0, is-same w.alike is.1, is-same x.alike is.2, is-same y.alike is.3, z.like.is, is-same p.alike is.5);
+          is = record { name = var-is v.alike is.name; dot = is-same w.alike is.dot; member = is-same x.alike is.member; equals = is-same y.alike is.equals; value = z.like.is; end = is-same p.alike is.end };
           levels = λ d ls. ap (λ ks. d ∷ d ∷ d ∷ d ∷ ks) (z.like.levels d (d ∷ ls));
           means = λ s t k.
-              let m = var-same s t v.alike is.0 k in
-              let n = ident-same _ _ x.alike is.2 m.rest in
+              let m = var-same s t v.alike is.name k in
+              let n = ident-same _ _ x.alike is.member m.rest in
               let o = z.like.means _ _ n.rest in
               record { kind = λ i. form.SetField (m.ident i) (n.ident i) (o.arg i); rest = o.rest };
         };
@@ -318,10 +318,10 @@ mutual
   renew_stmt text other (StmtTree.set_item name opening j closing equals e end) us vs is h =
       let v = first h in
       let w = first v.rest in
-      let x = renew_expr text other j _ _ is.2 w.rest in
+      let x = renew_expr text other j _ _ is.index w.rest in
       let y = first x.rest in
       let z = first y.rest in
-      let p = renew_expr text other e _ _ is.5 z.rest in
+      let p = renew_expr text other e _ _ is.value z.rest in
       let q = first p.rest in
       record {
         tree = StmtTree.set_item v.token w.token x.tree y.token z.token p.tree q.token;
@@ -329,10 +329,10 @@ mutual
         spells = rw (q.is, p.spells, z.is, y.is, x.spells, w.is, v.is) refl;
         rest = q.rest;
         like = record {
-          is = (var-is v.alike is.0, is-same w.alike is.1, x.like.is, is-same y.alike is.3, is-same z.alike is.4, p.like.is, is-same q.alike is.6);
+          is = record { name = var-is v.alike is.name; opening = is-same w.alike is.opening; index = x.like.is; closing = is-same y.alike is.closing; equals = is-same z.alike is.equals; value = p.like.is; end = is-same q.alike is.end };
           levels = λ d ls. ap (λ ks. d ∷ (d + 1) ∷ ks) (x.like.levels (d + 1) (d + 1) _ ∙ ap (λ ks. expr_levels (d + 1) (d + 1) j (d ∷ d ∷ ks)) (p.like.levels d d (d ∷ ls)));
           means = λ s t k.
-              let m = var-same s t v.alike is.0 k in
+              let m = var-same s t v.alike is.name k in
               let n = x.like.means _ _ m.rest in
               let o = p.like.means _ _ n.rest in
               record { kind = λ i. form.SetItem (m.ident i) (n.place i) (o.place i); rest = o.rest };
@@ -370,16 +370,16 @@ mutual
   renew_stmt text other (StmtTree.if_then word opening e closing a) us vs is h =
       let v = first h in
       let w = first v.rest in
-      let x = renew_expr text other e _ _ is.2 w.rest in
+      let x = renew_expr text other e _ _ is.test w.rest in
       let y = first x.rest in
-      let z = renew_block text other a _ _ is.4 y.rest in
+      let z = renew_block text other a _ _ is.block y.rest in
       record {
         tree = StmtTree.if_then v.token w.token x.tree y.token z.tree;
         behind = z.behind;
         spells = rw (z.spells, y.is, x.spells, w.is, v.is) refl;
         rest = z.rest;
         like = record {
-          is = (is-same v.alike is.0, is-same w.alike is.1, x.like.is, is-same y.alike is.3, z.like.is);
+          is = record { word = is-same v.alike is.word; opening = is-same w.alike is.opening; test = x.like.is; closing = is-same y.alike is.closing; block = z.like.is };
           levels = λ d ls. ap (λ ks. d ∷ (d + 1) ∷ ks) (x.like.levels (d + 1) (d + 1) _ ∙ ap (λ ks. expr_levels (d + 1) (d + 1) e (d ∷ ks)) (z.like.levels d ls));
           means = λ s t k.
               let m = x.like.means s t k in
@@ -390,18 +390,18 @@ mutual
   renew_stmt text other (StmtTree.if_else word opening e closing a otherwise b) us vs is h =
       let v = first h in
       let w = first v.rest in
-      let x = renew_expr text other e _ _ is.2 w.rest in
+      let x = renew_expr text other e _ _ is.test w.rest in
       let y = first x.rest in
-      let z = renew_block text other a _ _ is.4 y.rest in
+      let z = renew_block text other a _ _ is.first y.rest in
       let p = first z.rest in
-      let q = renew_block text other b _ _ is.6 p.rest in
+      let q = renew_block text other b _ _ is.second p.rest in
       record {
         tree = StmtTree.if_else v.token w.token x.tree y.token z.tree p.token q.tree;
         behind = q.behind;
         spells = rw (q.spells, p.is, z.spells, y.is, x.spells, w.is, v.is) refl;
         rest = q.rest;
         like = record {
-          is = (is-same v.alike is.0, is-same w.alike is.1, x.like.is, is-same y.alike is.3, z.like.is, is-same p.alike is.5, q.like.is);
+          is = record { word = is-same v.alike is.word; opening = is-same w.alike is.opening; test = x.like.is; closing = is-same y.alike is.closing; first = z.like.is; otherwise = is-same p.alike is.otherwise; second = q.like.is };
           levels = λ d ls. ap (λ ks. d ∷ (d + 1) ∷ ks) (x.like.levels (d + 1) (d + 1) _
               ∙ ap (λ ks. expr_levels (d + 1) (d + 1) e (d ∷ ks)) (z.like.levels d _ ∙ ap (λ ks. block_levels d a (d ∷ ks)) (q.like.levels d ls)));
           means = λ s t k.
@@ -414,16 +414,16 @@ mutual
   renew_stmt text other (StmtTree.repeat word opening e closing a) us vs is h =
       let v = first h in
       let w = first v.rest in
-      let x = renew_expr text other e _ _ is.2 w.rest in
+      let x = renew_expr text other e _ _ is.test w.rest in
       let y = first x.rest in
-      let z = renew_block text other a _ _ is.4 y.rest in
+      let z = renew_block text other a _ _ is.block y.rest in
       record {
         tree = StmtTree.repeat v.token w.token x.tree y.token z.tree;
         behind = z.behind;
         spells = rw (z.spells, y.is, x.spells, w.is, v.is) refl;
         rest = z.rest;
         like = record {
-          is = (is-same v.alike is.0, is-same w.alike is.1, x.like.is, is-same y.alike is.3, z.like.is);
+          is = record { word = is-same v.alike is.word; opening = is-same w.alike is.opening; test = x.like.is; closing = is-same y.alike is.closing; block = z.like.is };
           levels = λ d ls. ap (λ ks. d ∷ (d + 1) ∷ ks) (x.like.levels (d + 1) (d + 1) _ ∙ ap (λ ks. expr_levels (d + 1) (d + 1) e (d ∷ ks)) (z.like.levels d ls));
           means = λ s t k.
               let m = x.like.means s t k in

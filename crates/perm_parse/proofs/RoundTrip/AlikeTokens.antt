@@ -14,7 +14,7 @@ use Rattle.perm_tree.specs.declared.tokens.TokenKind.{TokenKind}
 use Rattle.perm_tree.specs.declared.tokens.TokenKind.TheVariants as kinds
 use Rattle.perm_parse.specs.Grammar.{TypeTree, IsVar, IsType, type_text}
 use Rattle.perm_parse.specs.Levels.{type_levels}
-use Rattle.perm_parse.specs.Meaning.{numbered, named, ident, var_as, var, push_expr, push_stmt, push_mention, type_of}
+use Rattle.perm_parse.specs.Meaning.{number_at, number_of, ident, var_as, var, push_expr, push_stmt, push_mention, type_of}
 use Rattle.perm_parse.specs.SameButSpans.{no_span, clear_ident, clear_expr, clear_stmt, without_spans}
 
 -- ---- programs that are the same but for their spans
@@ -54,9 +54,9 @@ push_mention-same x y s t h k =
     let more = last-same clear_ident s.mentions t.mentions x y (ap (λ (p : Listing). p.mentions) k.same) h in
     record { same = λ i. record (k.same i) { mentions = more i } }
 
-numbered-same : (name : List ℕ) (o : Option ℕ) (s t : Listing) → Same s t → SamePlace (numbered name s o) (numbered name t o)
-numbered-same name (Some at) s t k = record { place = refl; rest = k }
-numbered-same name None s t k =
+number_at-same : (name : List ℕ) (o : Option ℕ) (s t : Listing) → Same s t → SamePlace (number_at name s o) (number_at name t o)
+number_at-same name (Some at) s t k = record { place = refl; rest = k }
+number_at-same name None s t k =
     let names = names-same s t k in
     record { place = ap length names; rest = record { same = λ i. record (k.same i) { names = names i ++ name ∷ [] } } }
 
@@ -104,18 +104,18 @@ pub record SameIdent (x y : Ident × Listing) : Type 0 where
   pub ident : clear_ident x.0 ≡ clear_ident y.0
   pub rest : Same x.1 y.1
 
-named-same : (text other : List ℕ) (u v : Token) (s t : Listing) → Alike text other u v → u.kind ≡ kinds.Name → Same s t → SamePlace (named text u s) (named other v t)
-named-same text other u v s t h e k =
+number_of-same : (text other : List ℕ) (u v : Token) (s t : Listing) → Alike text other u v → u.kind ≡ kinds.Name → Same s t → SamePlace (number_of text u s) (number_of other v t)
+number_of-same text other u v s t h e k =
     let bytes = h.name e in
     let names = names-same s t k in
     let name = slice_range text u.span.start u.span.end in
     let here = position (λ x. bytes_eq x name) s.names in
-    let there : numbered name t here ≡ named other v t = λ i. numbered (bytes i) t (position (λ x. bytes_eq x (bytes i)) (names i)) in
-    subst (λ (z : ℕ × Listing). SamePlace (named text u s) z) there (numbered-same name here s t k)
+    let there : number_at name t here ≡ number_of other v t = λ i. number_at (bytes i) t (position (λ x. bytes_eq x (bytes i)) (names i)) in
+    subst (λ (z : ℕ × Listing). SamePlace (number_of text u s) z) there (number_at-same name here s t k)
 
 pub ident-same : {text other : List ℕ} {u v : Token} (s t : Listing) → Alike text other u v → u.kind ≡ kinds.Name → Same s t → SameIdent (ident text u s) (ident other v t)
 ident-same {text} {other} {u} {v} s t h e k =
-    let d = named-same text other u v s t h e k in
+    let d = number_of-same text other u v s t h e k in
     record { ident = λ i. record { name = d.place i; span = no_span }; rest = d.rest }
 
 pub var-same : {text other : List ℕ} {u v : Token} (s t : Listing) → Alike text other u v → IsVar u → Same s t → SameIdent (var text u s) (var other v t)
@@ -194,7 +194,7 @@ renew_type text other (TypeTree.array_type p perm word opening closing) us vs is
       spells = rw (w.is, z.is, y.is, x.is) refl;
       rest = w.rest;
       like = record {
-        is = (is-same x.alike is.0, is-same y.alike is.1, is-same z.alike is.2, is-same w.alike is.3);
+        is = record { perm = is-same x.alike is.perm; word = is-same y.alike is.word; opening = is-same z.alike is.opening; closing = is-same w.alike is.closing };
         levels = λ d ls. refl;
         means = λ s t k. record { ty = refl; rest = k };
       };

@@ -8,7 +8,7 @@ use Rattle.perm_parse.specs.Grammar.{ExprTree, ArgTree, ArgList, Args, CallTree,
 use Rattle.perm_parse.specs.Grammar.{TypeTree, type_text, RecvTree, recv_text, TargetTree, target_text, ParamList, param_list_text, Params, params_text}
 use Rattle.perm_parse.specs.Grammar.{expr_text, arg_text, arg_list_text, args_text, call_text, rhs_text, block_text, stmt_text, stmts_text, member_text, members_text, program_text, looseness, level}
 use Rattle.perm_parse.proofs.OneAnswer.Completion.{some_token}
-use Rattle.perm_parse.proofs.RoundTrip.CanonicalTrees.{bare, enclosed}
+use Rattle.perm_parse.proofs.RoundTrip.CanonicalTrees.{bare, enclose}
 use Rattle.perm_parse.proofs.RoundTrip.BareTrees.{bare_arg, bare_arg_list, bare_args, bare_call, bare_rhs, bare_block, bare_stmt, bare_stmts, bare_member, bare_members, bare_classes}
 
 -- in this text the bytes of a name are one, and a number isn't too large
@@ -38,13 +38,13 @@ paren-written : (text : List ℕ) → IsWritten text (some_token kind.OpenParen)
 paren-written text = (record { name = λ e. absurd (cc); number = λ e. absurd (cc) }, record { name = λ e. absurd (cc); number = λ e. absurd (cc) })
 
 -- an operand's tokens, where those of the tree in it are kept
-enclosed-kept : (text : List ℕ) (b : Boolean) (e : ExprTree) → ((rest others : List Token) → Kept text rest others → Kept text (expr_text e rest) (expr_text (bare e) others)) →
-    (rest others : List Token) → Kept text rest others → Kept text (expr_text e rest) (expr_text (enclosed b (bare e)) others)
-enclosed-kept text true e inside rest others more =
+enclose-kept : (text : List ℕ) (b : Boolean) (e : ExprTree) → ((rest others : List Token) → Kept text rest others → Kept text (expr_text e rest) (expr_text (bare e) others)) →
+    (rest others : List Token) → Kept text rest others → Kept text (expr_text e rest) (expr_text (enclose b (bare e)) others)
+enclose-kept text true e inside rest others more =
     let p = paren-written text in
     let inner = inside rest (some_token kind.CloseParen ∷ others) (record { keeps = λ h. (p.1, more.keeps h) }) in
     record { keeps = λ h. (p.0, inner.keeps h) }
-enclosed-kept text false e inside rest others more = inside rest others more
+enclose-kept text false e inside rest others more = inside rest others more
 
 expr-kept : (text : List ℕ) (e : ExprTree) (rest others : List Token) → Kept text rest others → Kept text (expr_text e rest) (expr_text (bare e) others)
 expr-kept text (ExprTree.number t) rest others more = one more
@@ -55,10 +55,10 @@ expr-kept text (ExprTree.variable t) rest others more = one more
 expr-kept text (ExprTree.parens opening e closing) rest others more =
     let inner : Kept text (expr_text e (closing ∷ rest)) (expr_text (bare e) others) = expr-kept text e (closing ∷ rest) others (record { keeps = λ h. more.keeps h.1 }) in
     record { keeps = λ h. inner.keeps h.1 }
-expr-kept text (ExprTree.unary o t e) rest others more = one (enclosed-kept text (ltb 0 (looseness (bare e))) e (λ r s k. expr-kept text e r s k) rest others more)
+expr-kept text (ExprTree.unary o t e) rest others more = one (enclose-kept text (ltb 0 (looseness (bare e))) e (λ r s k. expr-kept text e r s k) rest others more)
 expr-kept text (ExprTree.binary o a t b) rest others more =
-    enclosed-kept text (ltb (level o) (looseness (bare a))) a (λ r s k. expr-kept text a r s k) _ _
-    (one (enclosed-kept text (leb (level o) (looseness (bare b))) b (λ r s k. expr-kept text b r s k) rest others more))
+    enclose-kept text (ltb (level o) (looseness (bare a))) a (λ r s k. expr-kept text a r s k) _ _
+    (one (enclose-kept text (leb (level o) (looseness (bare b))) b (λ r s k. expr-kept text b r s k) rest others more))
 
 arg-kept : (text : List ℕ) (a : ArgTree) (rest others : List Token) → Kept text rest others → Kept text (arg_text a rest) (arg_text (bare_arg a) others)
 arg-kept text (ArgTree.plain e) rest others more = expr-kept text e _ _ more

@@ -10,7 +10,7 @@ use Rattle.perm_parse.specs.Grammar.{IsExpr, IsArg, IsArgList, AreArgs, IsCall, 
 use Rattle.perm_parse.specs.Levels.{type_levels, recv_levels, target_levels, param_list_levels, params_levels}
 use Rattle.perm_parse.specs.Levels.{expr_levels, arg_levels, arg_list_levels, args_levels, call_levels, rhs_levels, block_levels, stmt_levels, stmts_levels, member_levels, members_levels, program_levels}
 use Rattle.perm_parse.specs.Meaning.{ident, var, target_of, expr_of, arg_of, arg_list_of, args_of, call_of, rhs_of, stmt_of, stmts_of, method_of, member_of, members_of, classes_of, head_last}
-use Rattle.perm_parse.specs.Parses.{Shallow}
+use Rattle.perm_parse.specs.Parses.{Shallow, deepest}
 use Rattle.perm_parse.proofs.RoundTrip.CanonicalTrees.{bare, bare-is, bare-of, bare-low}
 
 abbrev pub bare_arg : ArgTree → ArgTree
@@ -85,32 +85,32 @@ bare_args-is Args.no_args h = tt
 bare_args-is (Args.args list) h = bare_arg_list-is list h
 
 bare_call-is : (c : CallTree) → IsCall c → IsCall (bare_call c)
-bare_call-is (CallTree.call recv dot name opening list closing) h = (h.0, h.1, h.2, h.3, bare_args-is list h.4, h.5)
+bare_call-is (CallTree.call recv dot name opening list closing) h = record { receiver = h.receiver; dot = h.dot; name = h.name; opening = h.opening; args = bare_args-is list h.args; closing = h.closing }
 
 mutual
   bare_rhs-is : (r : RhsTree) → IsRhs r → IsRhs (bare_rhs r)
   bare_rhs-is (RhsTree.value a) h = bare_arg-is a h
   bare_rhs-is (RhsTree.field name dot member) h = h
   bare_rhs-is (RhsTree.take_field word name dot member) h = h
-  bare_rhs-is (RhsTree.item name opening e closing) h = (h.0, h.1, bare-is e h.2, h.3)
+  bare_rhs-is (RhsTree.item name opening e closing) h = record { name = h.name; opening = h.opening; index = bare-is e h.index; closing = h.closing }
   bare_rhs-is (RhsTree.new_object word name opening closing) h = h
-  bare_rhs-is (RhsTree.new_array word long opening e closing) h = (h.0, h.1, h.2, bare-is e h.3, h.4)
+  bare_rhs-is (RhsTree.new_array word long opening e closing) h = record { word = h.word; long = h.long; opening = h.opening; size = bare-is e h.size; closing = h.closing }
   bare_rhs-is (RhsTree.called c) h = bare_call-is c h
-  bare_rhs-is (RhsTree.recover word opening b give name end closing) h = (h.0, h.1, bare_stmts-is b h.2, h.3, h.4, h.5, h.6)
+  bare_rhs-is (RhsTree.recover word opening b give name end closing) h = record { word = h.word; opening = h.opening; body = bare_stmts-is b h.body; give = h.give; name = h.name; end = h.end; closing = h.closing }
 
   bare_block-is : (a : BlockTree) → IsBlock a → IsBlock (bare_block a)
   bare_block-is (BlockTree.block opening b closing) h = (h.0, bare_stmts-is b h.1, h.2)
 
   bare_stmt-is : (x : StmtTree) → IsStmt x → IsStmt (bare_stmt x)
   bare_stmt-is (StmtTree.declare ty name end) h = h
-  bare_stmt-is (StmtTree.assign target equals r end) h = (h.0, h.1, bare_rhs-is r h.2, h.3)
-  bare_stmt-is (StmtTree.set_field name dot member equals a end) h = (h.0, h.1, h.2, h.3, bare_arg-is a h.4, h.5)
-  bare_stmt-is (StmtTree.set_item name opening i closing equals e end) h = (h.0, h.1, bare-is i h.2, h.3, h.4, bare-is e h.5, h.6)
+  bare_stmt-is (StmtTree.assign target equals r end) h = record { target = h.target; equals = h.equals; right = bare_rhs-is r h.right; end = h.end }
+  bare_stmt-is (StmtTree.set_field name dot member equals a end) h = record { name = h.name; dot = h.dot; member = h.member; equals = h.equals; value = bare_arg-is a h.value; end = h.end }
+  bare_stmt-is (StmtTree.set_item name opening i closing equals e end) h = record { name = h.name; opening = h.opening; index = bare-is i h.index; closing = h.closing; equals = h.equals; value = bare-is e h.value; end = h.end }
   bare_stmt-is (StmtTree.run_call c end) h = (bare_call-is c h.0, h.1)
   bare_stmt-is (StmtTree.print word e end) h = (h.0, bare-is e h.1, h.2)
-  bare_stmt-is (StmtTree.if_then word opening e closing a) h = (h.0, h.1, bare-is e h.2, h.3, bare_block-is a h.4)
-  bare_stmt-is (StmtTree.if_else word opening e closing a otherwise b) h = (h.0, h.1, bare-is e h.2, h.3, bare_block-is a h.4, h.5, bare_block-is b h.6)
-  bare_stmt-is (StmtTree.repeat word opening e closing a) h = (h.0, h.1, bare-is e h.2, h.3, bare_block-is a h.4)
+  bare_stmt-is (StmtTree.if_then word opening e closing a) h = record { word = h.word; opening = h.opening; test = bare-is e h.test; closing = h.closing; block = bare_block-is a h.block }
+  bare_stmt-is (StmtTree.if_else word opening e closing a otherwise b) h = record { word = h.word; opening = h.opening; test = bare-is e h.test; closing = h.closing; first = bare_block-is a h.first; otherwise = h.otherwise; second = bare_block-is b h.second }
+  bare_stmt-is (StmtTree.repeat word opening e closing a) h = record { word = h.word; opening = h.opening; test = bare-is e h.test; closing = h.closing; block = bare_block-is a h.block }
   bare_stmt-is (StmtTree.par word a b) h = (h.0, bare_block-is a h.1, bare_block-is b h.2)
 
   bare_stmts-is : (b : Stmts) → AreStmts b → AreStmts (bare_stmts b)
@@ -119,8 +119,7 @@ mutual
 
 bare_member-is : (x : MemberTree) → IsMember x → IsMember (bare_member x)
 bare_member-is (MemberTree.field_member ty name end) h = h
-bare_member-is (MemberTree.method ty name opening list closing p perm start b word a end finish) h =
-    (h.0, h.1, h.2, h.3, h.4, h.5, h.6, bare_stmts-is b h.7, h.8, bare_arg-is a h.9, h.10, h.11)
+bare_member-is (MemberTree.method ty name opening list closing p perm start b word a end finish) h = record { ty = h.ty; name = h.name; opening = h.opening; params = h.params; closing = h.closing; perm = h.perm; start = h.start; body = bare_stmts-is b h.body; word = h.word; back = bare_arg-is a h.back; end = h.end; finish = h.finish }
 
 bare_members-is : (list : Members) → AreMembers list → AreMembers (bare_members list)
 bare_members-is Members.no_members h = tt
@@ -128,7 +127,7 @@ bare_members-is (Members.more_members list x) h = (bare_members-is list h.0, bar
 
 pub bare_classes-is : (list : Classes) → IsProgram list → IsProgram (bare_classes list)
 bare_classes-is Classes.no_classes h = tt
-bare_classes-is (Classes.more_classes list word name opening members closing) h = (bare_classes-is list h.0, h.1, h.2, h.3, bare_members-is members h.4, h.5)
+bare_classes-is (Classes.more_classes list word name opening members closing) h = record { list = bare_classes-is list h.list; word = h.word; name = h.name; opening = h.opening; members = bare_members-is members h.members; closing = h.closing }
 
 -- ---- it means the same
 
@@ -191,7 +190,7 @@ mutual
 bare_member-of : (text : List ℕ) (x : MemberTree) (fields : List FieldDecl) (methods : List Method) (s : Listing) → member_of text (bare_member x) fields methods s ≡ member_of text x fields methods s
 bare_member-of text (MemberTree.field_member ty name end) fields methods s = refl
 bare_member-of text (MemberTree.method ty name opening list closing p perm start b word a end finish) fields methods s =
-    let z = (method_of text ty name list s).3 in
+    let z = (method_of text ty name list s).program in
     rw (bare_stmts-of text b z, bare_arg-of text a (stmts_of text b z).1) refl
 
 bare_members-of : (text : List ℕ) (list : Members) (s : Listing) → members_of text (bare_members list) s ≡ members_of text list s
@@ -215,7 +214,7 @@ record Lows (rest others : List ℕ) : Type 0 where
 one : {d : ℕ} {rest others : List ℕ} → Lows rest others → Lows (d ∷ rest) (d ∷ others)
 one more = record { keeps = λ h. (h.0, more.keeps h.1) }
 
-under : {d : ℕ} {rest others : List ℕ} → (d ≤ 100 → Lows rest others) → Lows (d ∷ rest) (d ∷ others)
+under : {d : ℕ} {rest others : List ℕ} → (d ≤ deepest → Lows rest others) → Lows (d ∷ rest) (d ∷ others)
 under more = record { keeps = λ h. (h.0, (more h.0).keeps h.1) }
 
 type-low : (d : ℕ) (t : TypeTree) (rest others : List ℕ) → Lows rest others → Lows (type_levels d t rest) (type_levels d t others)
@@ -224,19 +223,19 @@ type-low d (TypeTree.bool_type t) rest others more = one more
 type-low d (TypeTree.object_type p perm name) rest others more = one (one more)
 type-low d (TypeTree.array_type p perm word opening closing) rest others more = one (one (one (one more)))
 
-expr-low : (i d : ℕ) (e : ExprTree) (rest others : List ℕ) → IsExpr e → i ≤ 100 → Lows rest others → Lows (expr_levels i d e rest) (expr_levels i d (bare e) others)
+expr-low : (i d : ℕ) (e : ExprTree) (rest others : List ℕ) → IsExpr e → i ≤ deepest → Lows rest others → Lows (expr_levels i d e rest) (expr_levels i d (bare e) others)
 expr-low i d e rest others is le more = record { keeps = bare-low i d e rest others is le more.keeps }
 
-arg-low : (d : ℕ) (a : ArgTree) (rest others : List ℕ) → IsArg a → d ≤ 100 → Lows rest others → Lows (arg_levels d a rest) (arg_levels d (bare_arg a) others)
+arg-low : (d : ℕ) (a : ArgTree) (rest others : List ℕ) → IsArg a → d ≤ deepest → Lows rest others → Lows (arg_levels d a rest) (arg_levels d (bare_arg a) others)
 arg-low d (ArgTree.plain e) rest others is le more = expr-low d d e rest others is le more
 arg-low d (ArgTree.consumed word name) rest others is le more = one (one more)
 
-arg_list-low : (d : ℕ) (list : ArgList) (rest others : List ℕ) → IsArgList list → d ≤ 100 → Lows rest others → Lows (arg_list_levels d list rest) (arg_list_levels d (bare_arg_list list) others)
+arg_list-low : (d : ℕ) (list : ArgList) (rest others : List ℕ) → IsArgList list → d ≤ deepest → Lows rest others → Lows (arg_list_levels d list rest) (arg_list_levels d (bare_arg_list list) others)
 arg_list-low d (ArgList.one_arg a) rest others is le more = arg-low d a rest others is le more
 arg_list-low d (ArgList.more_args list comma a) rest others is le more =
     arg_list-low d list (d ∷ arg_levels d a rest) (d ∷ arg_levels d (bare_arg a) others) is.0 le (one (arg-low d a rest others is.2 le more))
 
-args-low : (d : ℕ) (list : Args) (rest others : List ℕ) → AreArgs list → d ≤ 100 → Lows rest others → Lows (args_levels d list rest) (args_levels d (bare_args list) others)
+args-low : (d : ℕ) (list : Args) (rest others : List ℕ) → AreArgs list → d ≤ deepest → Lows rest others → Lows (args_levels d list rest) (args_levels d (bare_args list) others)
 args-low d Args.no_args rest others is le more = more
 args-low d (Args.args list) rest others is le more = arg_list-low d list rest others is le more
 
@@ -246,45 +245,45 @@ recv-low d (RecvTree.given opening word name closing) rest others more = one (on
 
 call-low : (d : ℕ) (c : CallTree) (rest others : List ℕ) → IsCall c → Lows rest others → Lows (call_levels d c rest) (call_levels d (bare_call c) others)
 call-low d (CallTree.call recv dot name opening list closing) rest others is more =
-    recv-low d recv _ _ (one (one (under (λ le. args-low (d + 1) list (d ∷ rest) (d ∷ others) is.4 le (one more)))))
+    recv-low d recv _ _ (one (one (under (λ le. args-low (d + 1) list (d ∷ rest) (d ∷ others) is.args le (one more)))))
 
 target-low : (d : ℕ) (t : TargetTree) (rest others : List ℕ) → Lows rest others → Lows (target_levels d t rest) (target_levels d t others)
 target-low d (TargetTree.known name) rest others more = one more
 target-low d (TargetTree.declared ty name) rest others more = type-low d ty (d ∷ rest) (d ∷ others) (one more)
 
 mutual
-  rhs-low : (d : ℕ) (r : RhsTree) (rest others : List ℕ) → IsRhs r → d ≤ 100 → Lows rest others → Lows (rhs_levels d r rest) (rhs_levels d (bare_rhs r) others)
+  rhs-low : (d : ℕ) (r : RhsTree) (rest others : List ℕ) → IsRhs r → d ≤ deepest → Lows rest others → Lows (rhs_levels d r rest) (rhs_levels d (bare_rhs r) others)
   rhs-low d (RhsTree.value a) rest others is le more = arg-low d a rest others is le more
   rhs-low d (RhsTree.field name dot member) rest others is le more = one (one (one more))
   rhs-low d (RhsTree.take_field word name dot member) rest others is le more = one (one (one (one more)))
-  rhs-low d (RhsTree.item name opening e closing) rest others is le more = one (under (λ l. expr-low (d + 1) (d + 1) e (d ∷ rest) (d ∷ others) is.2 l (one more)))
+  rhs-low d (RhsTree.item name opening e closing) rest others is le more = one (under (λ l. expr-low (d + 1) (d + 1) e (d ∷ rest) (d ∷ others) is.index l (one more)))
   rhs-low d (RhsTree.new_object word name opening closing) rest others is le more = one (one (one (one more)))
-  rhs-low d (RhsTree.new_array word long opening e closing) rest others is le more = one (one (under (λ l. expr-low (d + 1) (d + 1) e (d ∷ rest) (d ∷ others) is.3 l (one more))))
+  rhs-low d (RhsTree.new_array word long opening e closing) rest others is le more = one (one (under (λ l. expr-low (d + 1) (d + 1) e (d ∷ rest) (d ∷ others) is.size l (one more))))
   rhs-low d (RhsTree.called c) rest others is le more = call-low d c rest others is more
   rhs-low d (RhsTree.recover word opening b give name end closing) rest others is le more =
-      one (under (λ l. stmts-low (d + 1) b _ _ is.2 l (one (one (one (one more))))))
+      one (under (λ l. stmts-low (d + 1) b _ _ is.body l (one (one (one (one more))))))
 
   block-low : (d : ℕ) (a : BlockTree) (rest others : List ℕ) → IsBlock a → Lows rest others → Lows (block_levels d a rest) (block_levels d (bare_block a) others)
   block-low d (BlockTree.block opening b closing) rest others is more = under (λ l. stmts-low (d + 1) b (d ∷ rest) (d ∷ others) is.1 l (one more))
 
-  stmt-low : (d : ℕ) (x : StmtTree) (rest others : List ℕ) → IsStmt x → d ≤ 100 → Lows rest others → Lows (stmt_levels d x rest) (stmt_levels d (bare_stmt x) others)
+  stmt-low : (d : ℕ) (x : StmtTree) (rest others : List ℕ) → IsStmt x → d ≤ deepest → Lows rest others → Lows (stmt_levels d x rest) (stmt_levels d (bare_stmt x) others)
   stmt-low d (StmtTree.declare ty name end) rest others is le more = type-low d ty (d ∷ d ∷ rest) (d ∷ d ∷ others) (one (one more))
   stmt-low d (StmtTree.assign target equals r end) rest others is le more =
-      target-low d target _ _ (one (rhs-low d r (d ∷ rest) (d ∷ others) is.2 le (one more)))
-  stmt-low d (StmtTree.set_field name dot member equals a end) rest others is le more = one (one (one (one (arg-low d a (d ∷ rest) (d ∷ others) is.4 le (one more)))))
+      target-low d target _ _ (one (rhs-low d r (d ∷ rest) (d ∷ others) is.right le (one more)))
+  stmt-low d (StmtTree.set_field name dot member equals a end) rest others is le more = one (one (one (one (arg-low d a (d ∷ rest) (d ∷ others) is.value le (one more)))))
   stmt-low d (StmtTree.set_item name opening i closing equals e end) rest others is le more =
-      one (under (λ l. expr-low (d + 1) (d + 1) i _ _ is.2 l (one (one (expr-low d d e (d ∷ rest) (d ∷ others) is.5 le (one more))))))
+      one (under (λ l. expr-low (d + 1) (d + 1) i _ _ is.index l (one (one (expr-low d d e (d ∷ rest) (d ∷ others) is.value le (one more))))))
   stmt-low d (StmtTree.run_call c end) rest others is le more = call-low d c (d ∷ rest) (d ∷ others) is.0 (one more)
   stmt-low d (StmtTree.print word e end) rest others is le more = one (expr-low d d e (d ∷ rest) (d ∷ others) is.1 le (one more))
   stmt-low d (StmtTree.if_then word opening e closing a) rest others is le more =
-      one (under (λ l. expr-low (d + 1) (d + 1) e _ _ is.2 l (one (block-low d a rest others is.4 more))))
+      one (under (λ l. expr-low (d + 1) (d + 1) e _ _ is.test l (one (block-low d a rest others is.block more))))
   stmt-low d (StmtTree.if_else word opening e closing a otherwise b) rest others is le more =
-      one (under (λ l. expr-low (d + 1) (d + 1) e _ _ is.2 l (one (block-low d a _ _ is.4 (one (block-low d b rest others is.6 more))))))
+      one (under (λ l. expr-low (d + 1) (d + 1) e _ _ is.test l (one (block-low d a _ _ is.first (one (block-low d b rest others is.second more))))))
   stmt-low d (StmtTree.repeat word opening e closing a) rest others is le more =
-      one (under (λ l. expr-low (d + 1) (d + 1) e _ _ is.2 l (one (block-low d a rest others is.4 more))))
+      one (under (λ l. expr-low (d + 1) (d + 1) e _ _ is.test l (one (block-low d a rest others is.block more))))
   stmt-low d (StmtTree.par word a b) rest others is le more = one (block-low d a _ _ is.1 (block-low d b rest others is.2 more))
 
-  stmts-low : (d : ℕ) (b : Stmts) (rest others : List ℕ) → AreStmts b → d ≤ 100 → Lows rest others → Lows (stmts_levels d b rest) (stmts_levels d (bare_stmts b) others)
+  stmts-low : (d : ℕ) (b : Stmts) (rest others : List ℕ) → AreStmts b → d ≤ deepest → Lows rest others → Lows (stmts_levels d b rest) (stmts_levels d (bare_stmts b) others)
   stmts-low d Stmts.no_stmts rest others is le more = more
   stmts-low d (Stmts.more_stmts b x) rest others is le more = stmts-low d b _ _ is.0 le (stmt-low d x rest others is.1 le more)
 
@@ -300,7 +299,7 @@ member-low : (x : MemberTree) (rest others : List ℕ) → IsMember x → Lows r
 member-low (MemberTree.field_member ty name end) rest others is more = type-low 1 ty (1 ∷ 1 ∷ rest) (1 ∷ 1 ∷ others) (one (one more))
 member-low (MemberTree.method ty name opening list closing p perm start b word a end finish) rest others is more =
     type-low 1 ty _ _ (one (one (params-low 2 list _ _ (one (one (one
-    (stmts-low 2 b _ _ is.7 (omega arith) (one (arg-low 2 a (2 ∷ 1 ∷ rest) (2 ∷ 1 ∷ others) is.9 (omega arith) (one (one more)))))))))))
+    (stmts-low 2 b _ _ is.body (omega arith) (one (arg-low 2 a (2 ∷ 1 ∷ rest) (2 ∷ 1 ∷ others) is.back (omega arith) (one (one more)))))))))))
 
 members-low : (list : Members) (rest others : List ℕ) → AreMembers list → Lows rest others → Lows (members_levels list rest) (members_levels (bare_members list) others)
 members-low Members.no_members rest others is more = more
@@ -309,7 +308,7 @@ members-low (Members.more_members list x) rest others is more = members-low list
 classes-low : (list : Classes) (rest others : List ℕ) → IsProgram list → Lows rest others → Lows (program_levels list rest) (program_levels (bare_classes list) others)
 classes-low Classes.no_classes rest others is more = more
 classes-low (Classes.more_classes list word name opening members closing) rest others is more =
-    classes-low list _ _ is.0 (one (one (one (members-low members (0 ∷ rest) (0 ∷ others) is.4 (one more)))))
+    classes-low list _ _ is.list (one (one (one (members-low members (0 ∷ rest) (0 ∷ others) is.members (one more)))))
 
 pub bare_classes-low : (list : Classes) → IsProgram list → Shallow (program_levels list []) → Shallow (program_levels (bare_classes list) [])
 bare_classes-low list is h = (classes-low list [] [] is (record { keeps = λ k. k })).keeps h

@@ -88,8 +88,8 @@ target_pieces text (TargetTree.declared ty name) ps = type_pieces text ty (space
 -- ---- statements
 
 -- the end of a statement's line
-abbrev pub ending : List Piece → List Piece
-ending ps = mark kind.Semicolon ∷ line ∷ ps
+abbrev pub end_pieces : List Piece → List Piece
+end_pieces ps = mark kind.Semicolon ∷ line ∷ ps
 
 abbrev mutual
   pub rhs_pieces : List ℕ → ℕ → RhsTree → List Piece → List Piece
@@ -103,21 +103,21 @@ abbrev mutual
   rhs_pieces text depth (RhsTree.called c) ps = call_pieces text c ps
   rhs_pieces text depth (RhsTree.recover word opening b give name end closing) ps =
       mark kind.Recover ∷ space ∷ mark kind.OpenBrace ∷ line ∷ stmts_pieces text (suc depth) b (indent_pieces (suc depth)
-      (mark kind.Give ∷ space ∷ name_piece text name ∷ ending (indent_pieces depth (mark kind.CloseBrace ∷ ps))))
+      (mark kind.Give ∷ space ∷ name_piece text name ∷ end_pieces (indent_pieces depth (mark kind.CloseBrace ∷ ps))))
 
   pub block_pieces : List ℕ → ℕ → BlockTree → List Piece → List Piece
   block_pieces text depth (BlockTree.block opening b closing) ps = mark kind.OpenBrace ∷ line ∷ stmts_pieces text (suc depth) b (indent_pieces depth (mark kind.CloseBrace ∷ ps))
 
   -- a statement behind its indentation
   pub stmt_pieces : List ℕ → ℕ → StmtTree → List Piece → List Piece
-  stmt_pieces text depth (StmtTree.declare ty name end) ps = type_pieces text ty (space ∷ name_piece text name ∷ ending ps)
-  stmt_pieces text depth (StmtTree.assign target equals r end) ps = target_pieces text target (space ∷ mark kind.Assign ∷ space ∷ rhs_pieces text depth r (ending ps))
+  stmt_pieces text depth (StmtTree.declare ty name end) ps = type_pieces text ty (space ∷ name_piece text name ∷ end_pieces ps)
+  stmt_pieces text depth (StmtTree.assign target equals r end) ps = target_pieces text target (space ∷ mark kind.Assign ∷ space ∷ rhs_pieces text depth r (end_pieces ps))
   stmt_pieces text depth (StmtTree.set_field name dot member equals a end) ps =
-      var_piece text name ∷ mark kind.Dot ∷ name_piece text member ∷ space ∷ mark kind.Assign ∷ space ∷ arg_pieces text a (ending ps)
+      var_piece text name ∷ mark kind.Dot ∷ name_piece text member ∷ space ∷ mark kind.Assign ∷ space ∷ arg_pieces text a (end_pieces ps)
   stmt_pieces text depth (StmtTree.set_item name opening i closing equals e end) ps =
-      var_piece text name ∷ mark kind.OpenBracket ∷ expr_pieces text i (mark kind.CloseBracket ∷ space ∷ mark kind.Assign ∷ space ∷ expr_pieces text e (ending ps))
-  stmt_pieces text depth (StmtTree.run_call c end) ps = call_pieces text c (ending ps)
-  stmt_pieces text depth (StmtTree.print word e end) ps = mark kind.Print ∷ space ∷ expr_pieces text e (ending ps)
+      var_piece text name ∷ mark kind.OpenBracket ∷ expr_pieces text i (mark kind.CloseBracket ∷ space ∷ mark kind.Assign ∷ space ∷ expr_pieces text e (end_pieces ps))
+  stmt_pieces text depth (StmtTree.run_call c end) ps = call_pieces text c (end_pieces ps)
+  stmt_pieces text depth (StmtTree.print word e end) ps = mark kind.Print ∷ space ∷ expr_pieces text e (end_pieces ps)
   stmt_pieces text depth (StmtTree.if_then word opening e closing a) ps =
       mark kind.If ∷ space ∷ mark kind.OpenParen ∷ expr_pieces text e (mark kind.CloseParen ∷ space ∷ block_pieces text depth a (line ∷ ps))
   stmt_pieces text depth (StmtTree.if_else word opening e closing a otherwise b) ps =
@@ -142,11 +142,11 @@ params_pieces text Params.no_params ps = ps
 params_pieces text (Params.params list) ps = param_list_pieces text list ps
 
 abbrev pub member_pieces : List ℕ → MemberTree → List Piece → List Piece
-member_pieces text (MemberTree.field_member ty name end) ps = space ∷ space ∷ type_pieces text ty (space ∷ name_piece text name ∷ ending ps)
+member_pieces text (MemberTree.field_member ty name end) ps = space ∷ space ∷ type_pieces text ty (space ∷ name_piece text name ∷ end_pieces ps)
 member_pieces text (MemberTree.method ty name opening list closing p perm start b word a end finish) ps =
     space ∷ space ∷ type_pieces text ty (space ∷ name_piece text name ∷ mark kind.OpenParen ∷ params_pieces text list
     (mark kind.CloseParen ∷ space ∷ mark (perm_word p) ∷ space ∷ mark kind.OpenBrace ∷ line ∷ stmts_pieces text 2 b
-    (space ∷ space ∷ space ∷ space ∷ mark kind.Return ∷ space ∷ arg_pieces text a (ending (space ∷ space ∷ mark kind.CloseBrace ∷ line ∷ ps)))))
+    (space ∷ space ∷ space ∷ space ∷ mark kind.Return ∷ space ∷ arg_pieces text a (end_pieces (space ∷ space ∷ mark kind.CloseBrace ∷ line ∷ ps)))))
 
 abbrev pub members_pieces : List ℕ → Members → List Piece → List Piece
 members_pieces text Members.no_members ps = ps

@@ -3,21 +3,14 @@ use Rattle.std.proofs.Common.{◌≡◌, ℕ, ◌+◌, ◌<◌, ◌≤◌, List,
 use Rattle.std.proofs.Math.ListN.{get_or-append}
 use Rattle.std.proofs.lemmas.List.{length-append}
 use Rattle.perm_tree.specs.Places.{Listing, AllBelow}
-use Rattle.perm_tree.specs.Canonical.{joined}
-use Rattle.perm_tree.specs.CanonicalText as whole
-use Rattle.perm_tree.specs.CanonicalText.{Wording, indent, block_parts, rhs_parts, stmt_parts}
+use Rattle.perm_tree.specs.Printer.Expressions.{parts_text}
+use Rattle.perm_tree.specs.Printer.Programs as whole
+use Rattle.perm_tree.specs.Printer.Programs.{Wording, indent, block_parts, rhs_parts, stmt_parts}
+use Rattle.perm_tree.proofs.Pushes.{all_more, all_append}
 use Rattle.perm_tree.proofs.Entries.{ReadsBefore}
 use Rattle.perm_parse.specs.Grammar.{RhsTree, BlockTree, StmtTree, Stmts}
 use Rattle.perm_parse.specs.Meaning.{ident, target_of, expr_of, rhs_of, stmt_of, stmts_of}
 use Rattle.perm_parse.proofs.Walks.ListGrowth.{front-length, ident-grows, stmt-grows, stmts-grows}
-
-below-more : (m n : ℕ) (xs : List ℕ) → m ≤ n → AllBelow m xs → AllBelow n xs
-below-more m n [] le h = tt
-below-more m n (x ∷ xs) le h = (omega arith, below-more m n xs le h.1)
-
-below-snoc : (n : ℕ) (xs : List ℕ) (k : ℕ) → AllBelow n xs → k < n → AllBelow n (xs ++ k ∷ [])
-below-snoc n [] k h l = (l, tt)
-below-snoc n (x ∷ xs) k h l = (h.0, below-snoc n xs k h.1 l)
 
 -- the statements of a list are there behind it
 pub stmts-below : (text : List ℕ) (b : Stmts) (s : Listing) → AllBelow (length (stmts_of text b s).1.stmts) (stmts_of text b s).0
@@ -27,7 +20,7 @@ stmts-below text (Stmts.more_stmts b x) s =
     let z = stmt_of text x y.1 in
     let grown = front-length y.1.stmts z.1.stmts (stmt-grows text x y.1).stmts in
     let long = length-append z.1.stmts (z.0 ∷ []) in
-    below-snoc (length (z.1.stmts ++ z.0 ∷ [])) y.0 (length z.1.stmts) (below-more (length y.1.stmts) (length (z.1.stmts ++ z.0 ∷ [])) y.0 (omega arith) (stmts-below text b s)) (omega arith)
+    all_append (length (z.1.stmts ++ z.0 ∷ [])) y.0 (length z.1.stmts ∷ []) (all_more (length y.1.stmts) (length (z.1.stmts ++ z.0 ∷ [])) y.0 (omega arith) (stmts-below text b s)) (omega arith, tt)
 
 block-same : (before after : List (ℕ → List ℕ)) (is : List ℕ) (depth : ℕ) → AllBelow (length before) is → block_parts (before ++ after) depth is ≡ block_parts before depth is
 block-same before after [] depth h = refl
@@ -39,7 +32,7 @@ block-same before after (i ∷ is) depth h =
 -- with statements that are there the texts of later ones change nothing
 stmts-same : (text : List ℕ) (b : Stmts) (s : Listing) (before after : List (ℕ → List ℕ)) (depth : ℕ) → length (stmts_of text b s).1.stmts ≤ length before → block_parts (before ++ after) depth (stmts_of text b s).0 ≡ block_parts before depth (stmts_of text b s).0
 stmts-same text b s before after depth le =
-    block-same before after (stmts_of text b s).0 depth (below-more (length (stmts_of text b s).1.stmts) (length before) (stmts_of text b s).0 le (stmts-below text b s))
+    block-same before after (stmts_of text b s).0 depth (all_more (length (stmts_of text b s).1.stmts) (length before) (stmts_of text b s).0 le (stmts-below text b s))
 
 rhs-same : (text : List ℕ) (r : RhsTree) (s : Listing) (w : Wording) (before after : List (ℕ → List ℕ)) (depth : ℕ) → length (rhs_of text r s).1.stmts ≤ length before →
     rhs_parts w (before ++ after) depth (rhs_of text r s).0 ≡ rhs_parts w before depth (rhs_of text r s).0
@@ -90,4 +83,4 @@ stmt-same text (StmtTree.par word (BlockTree.block start b finish) (BlockTree.bl
 
 -- the text of a statement at its place is made of those before it
 pub stmt-reads : (text : List ℕ) (x : StmtTree) (s : Listing) (w : Wording) → ReadsBefore (whole.stmt_text w) (length (stmt_of text x s).1.stmts) (stmt_of text x s).0
-stmt-reads text x s w before after long = λ i depth. joined (stmt-same text x s w before after depth (omega arith) i)
+stmt-reads text x s w before after long = λ i depth. parts_text (stmt-same text x s w before after depth (omega arith) i)

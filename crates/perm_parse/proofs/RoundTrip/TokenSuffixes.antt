@@ -13,14 +13,14 @@ AllBehind n [] = Unit {0}
 AllBehind n (t ∷ ts) = (n < t.span.start) × AllBehind n ts
 
 -- each token begins behind the start of those before it
-abbrev pub Ascending : List Token → Type 0
-Ascending [] = Unit {0}
-Ascending (t ∷ ts) = AllBehind t.span.start ts × Ascending ts
+abbrev pub IsAscending : List Token → Type 0
+IsAscending [] = Unit {0}
+IsAscending (t ∷ ts) = AllBehind t.span.start ts × IsAscending ts
 
 -- what holds of tokens that ascend behind a place holds of those at their end
 pub record Trails (us vs : List Token) : Type 0 where
   pub behind : (n : ℕ) → AllBehind n vs → AllBehind n us
-  pub ascending : Ascending vs → Ascending us
+  pub ascending : IsAscending vs → IsAscending us
 
 pub here : {us : List Token} → Trails us us
 here = record { behind = λ n h. h; ascending = λ h. h }
@@ -149,7 +149,7 @@ from-behind n (line_comment inside ∷ ps) at l = from-behind n ps (at + length 
 from-behind n (block_comment inside ∷ ps) at l = from-behind n ps (at + length (piece_text (block_comment inside))) (omega arith)
 from-behind n (token k bytes ∷ ps) at l = (l, from-behind n ps (at + length bytes) (omega arith))
 
-from-ascends : (ps : List Piece) (at : ℕ) → ArePieces ps [] → Ascending (tokens_from at ps)
+from-ascends : (ps : List Piece) (at : ℕ) → ArePieces ps [] → IsAscending (tokens_from at ps)
 from-ascends [] at h = tt
 from-ascends (blank b ∷ ps) at h = from-ascends ps (at + length (piece_text (blank b))) h.1
 from-ascends (line_comment inside ∷ ps) at h = from-ascends ps (at + length (piece_text (line_comment inside))) h.1
@@ -158,5 +158,5 @@ from-ascends (token k bytes ∷ ps) at h =
     let long = some-length bytes (token_some k bytes h.0.0) in
     (from-behind at ps (at + length bytes) (omega arith), from-ascends ps (at + length bytes) h.1)
 
-pub lexes-ascends : (text : List ℕ) (tokens : List Token) → Lexes text tokens → Ascending tokens
-lexes-ascends text tokens (ps, b, e) = subst Ascending (sym e) (from-ascends ps 0 b.each)
+pub lexes-ascends : (text : List ℕ) (tokens : List Token) → Lexes text tokens → IsAscending tokens
+lexes-ascends text tokens (ps, b, e) = subst IsAscending (sym e) (from-ascends ps 0 b.each)

@@ -14,7 +14,7 @@ use Rattle.perm_lex.proofs.Writing.{goes_on}
 use Rattle.perm_parse.specs.Grammar.{TypeTree, ExprTree, ArgTree, ArgList, Args, RecvTree, CallTree, TargetTree, RhsTree, BlockTree, StmtTree, Stmts, ParamList, Params, MemberTree, Members, Classes}
 use Rattle.perm_parse.specs.Grammar.{Is, IsType, IsExpr, IsArg, IsArgList, AreArgs, IsRecv, IsCall, IsTarget, IsRhs, IsBlock, IsStmt, AreStmts, IsParamList, AreParams, IsMember, AreMembers, IsProgram}
 use Rattle.perm_parse.specs.Grammar.{type_text, expr_text, arg_text, arg_list_text, args_text, recv_text, call_text, target_text, rhs_text, block_text, stmt_text, stmts_text, param_list_text, params_text, member_text, members_text, program_text, perm_word, unary_sign, sign}
-use Rattle.perm_parse.proofs.RoundTrip.CanonicalPieces.{mark, space, ending, name_piece, type_pieces, expr_pieces, arg_pieces, arg_list_pieces, args_pieces, recv_pieces, call_pieces, target_pieces}
+use Rattle.perm_parse.proofs.RoundTrip.CanonicalPieces.{mark, space, end_pieces, name_piece, type_pieces, expr_pieces, arg_pieces, arg_list_pieces, args_pieces, recv_pieces, call_pieces, target_pieces}
 use Rattle.perm_parse.proofs.RoundTrip.CanonicalPieces.{rhs_pieces, block_pieces, stmt_pieces, stmts_pieces, param_list_pieces, params_pieces, member_pieces, members_pieces, program_pieces}
 use Rattle.perm_parse.proofs.RoundTrip.TokenPieces.{Lays, Starts, plainly, Ends, gap, newline, indented, word_laid, sign_laid, name_laid, var_laid, number_laid, name-starts, var-starts, number-starts}
 
@@ -37,8 +37,8 @@ type_laid text (TypeTree.long_type t) us ps is ends more = word_laid kinds.Long 
 type_laid text (TypeTree.bool_type t) us ps is ends more = word_laid kinds.Bool refl (refl, refl) is ends.0 more
 type_laid text (TypeTree.object_type p perm name) us ps is ends more = perm_laid text p perm _ _ is.0 (name_laid is.1 ends.0 more)
 type_laid text (TypeTree.array_type p perm word opening closing) us ps is ends more =
-    perm_laid text p perm _ _ is.0 (word_laid kinds.Long refl (refl, refl) is.1 refl
-    (sign_laid kinds.OpenBracket refl refl is.2 (plainly refl) (sign_laid kinds.CloseBracket refl refl is.3 (plainly ends.1) more)))
+    perm_laid text p perm _ _ is.perm (word_laid kinds.Long refl (refl, refl) is.word refl
+    (sign_laid kinds.OpenBracket refl refl is.opening (plainly refl) (sign_laid kinds.CloseBracket refl refl is.closing (plainly ends.1) more)))
 
 type-starts : (text : List ℕ) (a : TypeTree) (us : List Token) (ps : List Piece) → Starts text (type_text a us) (type_pieces text a ps)
 type-starts text (TypeTree.long_type t) us ps = plainly refl
@@ -80,7 +80,7 @@ expr-starts text (ExprTree.null_word t) us ps is = plainly refl
 expr-starts text (ExprTree.variable t) us ps is = var-starts text t us ps is
 expr-starts text (ExprTree.parens opening e closing) us ps is = plainly refl
 expr-starts text (ExprTree.unary o t e) us ps is = plainly (unary-starts o (expr_pieces text e ps))
-expr-starts text (ExprTree.binary o a t b) us ps is = expr-starts text a _ _ is.0
+expr-starts text (ExprTree.binary o a t b) us ps is = expr-starts text a _ _ is.left
 
 expr_laid : (text : List ℕ) (a : ExprTree) (us : List Token) (ps : List Piece) → IsExpr a → Ends ps → Lays text us ps → Lays text (expr_text a us) (expr_pieces text a ps)
 expr_laid text (ExprTree.number t) us ps is ends more = number_laid is ends.0 more
@@ -92,7 +92,7 @@ expr_laid text (ExprTree.parens opening e closing) us ps is ends more =
     sign_laid kinds.OpenParen refl refl is.0 (expr-starts text e _ _ is.1) (expr_laid text e _ _ is.1 (refl, refl) (sign_laid kinds.CloseParen refl refl is.2 (plainly ends.1) more))
 expr_laid text (ExprTree.unary o t e) us ps is ends more = unary_laid text o t _ _ is.0 (expr-starts text e us ps is.1) (expr_laid text e us ps is.1 ends more)
 expr_laid text (ExprTree.binary o a t b) us ps is ends more =
-    expr_laid text a _ _ is.0 (refl, refl) (gap (binary_laid text o t _ _ is.1 (expr_laid text b us ps is.2 ends more)))
+    expr_laid text a _ _ is.left (refl, refl) (gap (binary_laid text o t _ _ is.operator (expr_laid text b us ps is.right ends more)))
 
 -- ---- arguments and calls
 
@@ -124,17 +124,17 @@ args_laid text (Args.args list) us ps is ends more = arg_list_laid text list us 
 recv_laid : (text : List ℕ) (a : RecvTree) (us : List Token) (ps : List Piece) → IsRecv a → Ends ps → Lays text us ps → Lays text (recv_text a us) (recv_pieces text a ps)
 recv_laid text (RecvTree.lent name) us ps is ends more = var_laid is ends.0 more
 recv_laid text (RecvTree.given opening word name closing) us ps is ends more =
-    sign_laid kinds.OpenParen refl refl is.0 (plainly refl) (word_laid kinds.Consume refl (refl, refl) is.1 refl (gap (var_laid is.2 refl (sign_laid kinds.CloseParen refl refl is.3 (plainly ends.1) more))))
+    sign_laid kinds.OpenParen refl refl is.opening (plainly refl) (word_laid kinds.Consume refl (refl, refl) is.word refl (gap (var_laid is.name refl (sign_laid kinds.CloseParen refl refl is.closing (plainly ends.1) more))))
 
 call_laid : (text : List ℕ) (a : CallTree) (us : List Token) (ps : List Piece) → IsCall a → Ends ps → Lays text us ps → Lays text (call_text a us) (call_pieces text a ps)
 call_laid text (CallTree.call recv dot name opening list closing) us ps is ends more =
-    recv_laid text recv _ _ is.0 (refl, refl) (sign_laid kinds.Dot refl refl is.1 (name-starts text name _ _ is.2) (name_laid is.2 refl
-    (sign_laid kinds.OpenParen refl refl is.3 (args-starts text list _ _ is.4 (plainly refl)) (args_laid text list _ _ is.4 (refl, refl)
-    (sign_laid kinds.CloseParen refl refl is.5 (plainly ends.1) more)))))
+    recv_laid text recv _ _ is.receiver (refl, refl) (sign_laid kinds.Dot refl refl is.dot (name-starts text name _ _ is.name) (name_laid is.name refl
+    (sign_laid kinds.OpenParen refl refl is.opening (args-starts text list _ _ is.args (plainly refl)) (args_laid text list _ _ is.args (refl, refl)
+    (sign_laid kinds.CloseParen refl refl is.closing (plainly ends.1) more)))))
 
 -- ---- statements
 
-ended : {text : List ℕ} {u : Token} {us : List Token} {ps : List Piece} → Is kinds.Semicolon u → Lays text us ps → Lays text (u ∷ us) (ending ps)
+ended : {text : List ℕ} {u : Token} {us : List Token} {ps : List Piece} → Is kinds.Semicolon u → Lays text us ps → Lays text (u ∷ us) (end_pieces ps)
 ended is more = sign_laid kinds.Semicolon refl refl is (plainly refl) (newline more)
 
 target_laid : (text : List ℕ) (a : TargetTree) (us : List Token) (ps : List Piece) → IsTarget a → Ends ps → Lays text us ps → Lays text (target_text a us) (target_pieces text a ps)
@@ -153,18 +153,18 @@ mutual
   rhs_laid text depth (RhsTree.field name dot member) us ps is ends more =
       var_laid is.0 refl (sign_laid kinds.Dot refl refl is.1 (name-starts text member _ _ is.2) (name_laid is.2 ends.0 more))
   rhs_laid text depth (RhsTree.take_field word name dot member) us ps is ends more =
-      word_laid kinds.Consume refl (refl, refl) is.0 refl (gap (var_laid is.1 refl (sign_laid kinds.Dot refl refl is.2 (name-starts text member _ _ is.3) (name_laid is.3 ends.0 more))))
+      word_laid kinds.Consume refl (refl, refl) is.word refl (gap (var_laid is.name refl (sign_laid kinds.Dot refl refl is.dot (name-starts text member _ _ is.member) (name_laid is.member ends.0 more))))
   rhs_laid text depth (RhsTree.item name opening e closing) us ps is ends more =
-      var_laid is.0 refl (sign_laid kinds.OpenBracket refl refl is.1 (expr-starts text e _ _ is.2) (expr_laid text e _ _ is.2 (refl, refl) (sign_laid kinds.CloseBracket refl refl is.3 (plainly ends.1) more)))
+      var_laid is.name refl (sign_laid kinds.OpenBracket refl refl is.opening (expr-starts text e _ _ is.index) (expr_laid text e _ _ is.index (refl, refl) (sign_laid kinds.CloseBracket refl refl is.closing (plainly ends.1) more)))
   rhs_laid text depth (RhsTree.new_object word name opening closing) us ps is ends more =
-      word_laid kinds.New refl (refl, refl) is.0 refl (gap (name_laid is.1 refl (sign_laid kinds.OpenParen refl refl is.2 (plainly refl) (sign_laid kinds.CloseParen refl refl is.3 (plainly ends.1) more))))
+      word_laid kinds.New refl (refl, refl) is.word refl (gap (name_laid is.name refl (sign_laid kinds.OpenParen refl refl is.opening (plainly refl) (sign_laid kinds.CloseParen refl refl is.closing (plainly ends.1) more))))
   rhs_laid text depth (RhsTree.new_array word long opening e closing) us ps is ends more =
-      word_laid kinds.New refl (refl, refl) is.0 refl (gap (word_laid kinds.Long refl (refl, refl) is.1 refl
-      (sign_laid kinds.OpenBracket refl refl is.2 (expr-starts text e _ _ is.3) (expr_laid text e _ _ is.3 (refl, refl) (sign_laid kinds.CloseBracket refl refl is.4 (plainly ends.1) more)))))
+      word_laid kinds.New refl (refl, refl) is.word refl (gap (word_laid kinds.Long refl (refl, refl) is.long refl
+      (sign_laid kinds.OpenBracket refl refl is.opening (expr-starts text e _ _ is.size) (expr_laid text e _ _ is.size (refl, refl) (sign_laid kinds.CloseBracket refl refl is.closing (plainly ends.1) more)))))
   rhs_laid text depth (RhsTree.called c) us ps is ends more = call_laid text c us ps is ends more
   rhs_laid text depth (RhsTree.recover word opening b give name end closing) us ps is ends more =
-      word_laid kinds.Recover refl (refl, refl) is.0 refl (gap (sign_laid kinds.OpenBrace refl refl is.1 (plainly refl) (newline (stmts_laid text (suc depth) b _ _ is.2 (indented (suc depth)
-      (word_laid kinds.Give refl (refl, refl) is.3 refl (gap (name_laid is.4 refl (ended is.5 (indented depth (sign_laid kinds.CloseBrace refl refl is.6 (plainly ends.1) more)))))))))))
+      word_laid kinds.Recover refl (refl, refl) is.word refl (gap (sign_laid kinds.OpenBrace refl refl is.opening (plainly refl) (newline (stmts_laid text (suc depth) b _ _ is.body (indented (suc depth)
+      (word_laid kinds.Give refl (refl, refl) is.give refl (gap (name_laid is.name refl (ended is.end (indented depth (sign_laid kinds.CloseBrace refl refl is.closing (plainly ends.1) more)))))))))))
 
   block_laid : (text : List ℕ) (depth : ℕ) (a : BlockTree) (us : List Token) (ps : List Piece) → IsBlock a → Stops goes_on (pieces_text ps) → Lays text us ps → Lays text (block_text a us) (block_pieces text depth a ps)
   block_laid text depth (BlockTree.block opening b closing) us ps is stops more =
@@ -173,22 +173,22 @@ mutual
   stmt_laid : (text : List ℕ) (depth : ℕ) (a : StmtTree) (us : List Token) (ps : List Piece) → IsStmt a → Lays text us ps → Lays text (stmt_text a us) (stmt_pieces text depth a ps)
   stmt_laid text depth (StmtTree.declare ty name end) us ps is more = type_laid text ty _ _ is.0 (refl, refl) (gap (name_laid is.1 refl (ended is.2 more)))
   stmt_laid text depth (StmtTree.assign target equals r end) us ps is more =
-      target_laid text target _ _ is.0 (refl, refl) (gap (sign_laid kinds.Assign refl refl is.1 (plainly refl) (gap (rhs_laid text depth r _ _ is.2 (refl, refl) (ended is.3 more)))))
+      target_laid text target _ _ is.target (refl, refl) (gap (sign_laid kinds.Assign refl refl is.equals (plainly refl) (gap (rhs_laid text depth r _ _ is.right (refl, refl) (ended is.end more)))))
   stmt_laid text depth (StmtTree.set_field name dot member equals a end) us ps is more =
-      var_laid is.0 refl (sign_laid kinds.Dot refl refl is.1 (name-starts text member _ _ is.2) (name_laid is.2 refl
-      (gap (sign_laid kinds.Assign refl refl is.3 (plainly refl) (gap (arg_laid text a _ _ is.4 (refl, refl) (ended is.5 more)))))))
+      var_laid is.name refl (sign_laid kinds.Dot refl refl is.dot (name-starts text member _ _ is.member) (name_laid is.member refl
+      (gap (sign_laid kinds.Assign refl refl is.equals (plainly refl) (gap (arg_laid text a _ _ is.value (refl, refl) (ended is.end more)))))))
   stmt_laid text depth (StmtTree.set_item name opening i closing equals e end) us ps is more =
-      var_laid is.0 refl (sign_laid kinds.OpenBracket refl refl is.1 (expr-starts text i _ _ is.2) (expr_laid text i _ _ is.2 (refl, refl) (sign_laid kinds.CloseBracket refl refl is.3 (plainly refl)
-      (gap (sign_laid kinds.Assign refl refl is.4 (plainly refl) (gap (expr_laid text e _ _ is.5 (refl, refl) (ended is.6 more))))))))
+      var_laid is.name refl (sign_laid kinds.OpenBracket refl refl is.opening (expr-starts text i _ _ is.index) (expr_laid text i _ _ is.index (refl, refl) (sign_laid kinds.CloseBracket refl refl is.closing (plainly refl)
+      (gap (sign_laid kinds.Assign refl refl is.equals (plainly refl) (gap (expr_laid text e _ _ is.value (refl, refl) (ended is.end more))))))))
   stmt_laid text depth (StmtTree.run_call c end) us ps is more = call_laid text c _ _ is.0 (refl, refl) (ended is.1 more)
   stmt_laid text depth (StmtTree.print word e end) us ps is more = word_laid kinds.Print refl (refl, refl) is.0 refl (gap (expr_laid text e _ _ is.1 (refl, refl) (ended is.2 more)))
   stmt_laid text depth (StmtTree.if_then word opening e closing a) us ps is more =
-      word_laid kinds.If refl (refl, refl) is.0 refl (gap (test_laid text e opening closing _ _ is.1 is.2 is.3 (block_laid text depth a _ _ is.4 refl (newline more))))
+      word_laid kinds.If refl (refl, refl) is.word refl (gap (test_laid text e opening closing _ _ is.opening is.test is.closing (block_laid text depth a _ _ is.block refl (newline more))))
   stmt_laid text depth (StmtTree.if_else word opening e closing a otherwise b) us ps is more =
-      word_laid kinds.If refl (refl, refl) is.0 refl (gap (test_laid text e opening closing _ _ is.1 is.2 is.3 (block_laid text depth a _ _ is.4 refl
-      (gap (word_laid kinds.Else refl (refl, refl) is.5 refl (gap (block_laid text depth b _ _ is.6 refl (newline more))))))))
+      word_laid kinds.If refl (refl, refl) is.word refl (gap (test_laid text e opening closing _ _ is.opening is.test is.closing (block_laid text depth a _ _ is.first refl
+      (gap (word_laid kinds.Else refl (refl, refl) is.otherwise refl (gap (block_laid text depth b _ _ is.second refl (newline more))))))))
   stmt_laid text depth (StmtTree.repeat word opening e closing a) us ps is more =
-      word_laid kinds.While refl (refl, refl) is.0 refl (gap (test_laid text e opening closing _ _ is.1 is.2 is.3 (block_laid text depth a _ _ is.4 refl (newline more))))
+      word_laid kinds.While refl (refl, refl) is.word refl (gap (test_laid text e opening closing _ _ is.opening is.test is.closing (block_laid text depth a _ _ is.block refl (newline more))))
   stmt_laid text depth (StmtTree.par word a b) us ps is more =
       word_laid kinds.Par refl (refl, refl) is.0 refl (gap (block_laid text depth a _ _ is.1 refl (gap (block_laid text depth b _ _ is.2 refl (newline more)))))
 
@@ -209,7 +209,7 @@ params-starts text (Params.params list) us ps starts = param_list-starts text li
 param_list_laid : (text : List ℕ) (a : ParamList) (us : List Token) (ps : List Piece) → IsParamList a → Ends ps → Lays text us ps → Lays text (param_list_text a us) (param_list_pieces text a ps)
 param_list_laid text (ParamList.one_param ty name) us ps is ends more = type_laid text ty _ _ is.0 (refl, refl) (gap (name_laid is.1 ends.0 more))
 param_list_laid text (ParamList.more_params list comma ty name) us ps is ends more =
-    param_list_laid text list _ _ is.0 (refl, refl) (sign_laid kinds.Comma refl refl is.1 (plainly refl) (gap (type_laid text ty _ _ is.2 (refl, refl) (gap (name_laid is.3 ends.0 more)))))
+    param_list_laid text list _ _ is.list (refl, refl) (sign_laid kinds.Comma refl refl is.comma (plainly refl) (gap (type_laid text ty _ _ is.ty (refl, refl) (gap (name_laid is.name ends.0 more)))))
 
 params_laid : (text : List ℕ) (a : Params) (us : List Token) (ps : List Piece) → AreParams a → Ends ps → Lays text us ps → Lays text (params_text a us) (params_pieces text a ps)
 params_laid text Params.no_params us ps is ends more = more
@@ -218,10 +218,10 @@ params_laid text (Params.params list) us ps is ends more = param_list_laid text 
 member_laid : (text : List ℕ) (a : MemberTree) (us : List Token) (ps : List Piece) → IsMember a → Lays text us ps → Lays text (member_text a us) (member_pieces text a ps)
 member_laid text (MemberTree.field_member ty name end) us ps is more = gap (gap (type_laid text ty _ _ is.0 (refl, refl) (gap (name_laid is.1 refl (ended is.2 more)))))
 member_laid text (MemberTree.method ty name opening list closing p perm start b word a end finish) us ps is more =
-    gap (gap (type_laid text ty _ _ is.0 (refl, refl) (gap (name_laid is.1 refl (sign_laid kinds.OpenParen refl refl is.2 (params-starts text list _ _ (plainly refl)) (params_laid text list _ _ is.3 (refl, refl)
-    (sign_laid kinds.CloseParen refl refl is.4 (plainly refl) (gap (perm_laid text p perm _ _ is.5 (sign_laid kinds.OpenBrace refl refl is.6 (plainly refl) (newline (stmts_laid text 2 b _ _ is.7
-    (gap (gap (gap (gap (word_laid kinds.Return refl (refl, refl) is.8 refl (gap (arg_laid text a _ _ is.9 (refl, refl) (ended is.10
-    (gap (gap (sign_laid kinds.CloseBrace refl refl is.11 (plainly refl) (newline more))))))))))))))))))))))))
+    gap (gap (type_laid text ty _ _ is.ty (refl, refl) (gap (name_laid is.name refl (sign_laid kinds.OpenParen refl refl is.opening (params-starts text list _ _ (plainly refl)) (params_laid text list _ _ is.params (refl, refl)
+    (sign_laid kinds.CloseParen refl refl is.closing (plainly refl) (gap (perm_laid text p perm _ _ is.perm (sign_laid kinds.OpenBrace refl refl is.start (plainly refl) (newline (stmts_laid text 2 b _ _ is.body
+    (gap (gap (gap (gap (word_laid kinds.Return refl (refl, refl) is.word refl (gap (arg_laid text a _ _ is.back (refl, refl) (ended is.end
+    (gap (gap (sign_laid kinds.CloseBrace refl refl is.finish (plainly refl) (newline more))))))))))))))))))))))))
 
 members_laid : (text : List ℕ) (a : Members) (us : List Token) (ps : List Piece) → AreMembers a → Lays text us ps → Lays text (members_text a us) (members_pieces text a ps)
 members_laid text Members.no_members us ps is more = more
@@ -230,5 +230,5 @@ members_laid text (Members.more_members list x) us ps is more = members_laid tex
 pub program_laid : (text : List ℕ) (a : Classes) (us : List Token) (ps : List Piece) → IsProgram a → Lays text us ps → Lays text (program_text a us) (program_pieces text a ps)
 program_laid text Classes.no_classes us ps is more = more
 program_laid text (Classes.more_classes list word name opening members closing) us ps is more =
-    program_laid text list _ _ is.0 (word_laid kinds.Class refl (refl, refl) is.1 refl (gap (name_laid is.2 refl (gap (sign_laid kinds.OpenBrace refl refl is.3 (plainly refl) (newline (members_laid text members _ _ is.4
-    (sign_laid kinds.CloseBrace refl refl is.5 (plainly refl) (newline more)))))))))
+    program_laid text list _ _ is.list (word_laid kinds.Class refl (refl, refl) is.word refl (gap (name_laid is.name refl (gap (sign_laid kinds.OpenBrace refl refl is.opening (plainly refl) (newline (members_laid text members _ _ is.members
+    (sign_laid kinds.CloseBrace refl refl is.closing (plainly refl) (newline more)))))))))

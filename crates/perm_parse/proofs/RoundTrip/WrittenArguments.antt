@@ -1,10 +1,10 @@
 -- What is written of arguments, calls and targets is what the canonical text of the program has there.
 use Rattle.std.proofs.Common.{◌≡◌, ℕ, zero, suc, List, [], ◌∷◌, ◌++◌, codes, refl, sym, ◌∙◌, ap}
 use Rattle.perm_tree.specs.Places.{Listing}
-use Rattle.perm_tree.specs.Canonical as canonical
-use Rattle.perm_tree.specs.Canonical.{joined, word}
-use Rattle.perm_tree.specs.CanonicalText as whole
-use Rattle.perm_tree.specs.CanonicalText.{Wording, wording, indent, args_parts, more_args_parts, call_parts, receiver_text, declared_text}
+use Rattle.perm_tree.specs.Printer.Expressions as canonical
+use Rattle.perm_tree.specs.Printer.Expressions.{parts_text, word}
+use Rattle.perm_tree.specs.Printer.Programs as whole
+use Rattle.perm_tree.specs.Printer.Programs.{Wording, wording, indent, args_parts, more_args_parts, call_parts, receiver_text, declared_text}
 use Rattle.perm_tree.specs.declared.ast.Arg.{Arg}
 use Rattle.perm_tree.specs.declared.tokens.Token.{Token}
 use Rattle.perm_tree.specs.declared.tokens.TokenKind.TheVariants as kinds
@@ -48,19 +48,19 @@ list-some text (ArgList.one_arg a) s = one-none (arg_of text a s).0
 list-some text (ArgList.more_args list comma a) s = snoc-some (arg_list_of text list s).0 (arg_of text a (arg_list_of text list s).1).0
 
 arg_list-written : (text : List ℕ) (a : ArgList) (s p : Listing) (ps : List Piece) → HasThis p → IsArgList a → Grows (arg_list_of text a s).1 p →
-    pieces_text (arg_list_pieces text (bare_arg_list a) ps) ≡ joined (args_parts (wording p) (arg_list_of text a s).0) ++ pieces_text ps
+    pieces_text (arg_list_pieces text (bare_arg_list a) ps) ≡ parts_text (args_parts (wording p) (arg_list_of text a s).0) ++ pieces_text ps
 arg_list-written text (ArgList.one_arg a) s p ps this is g = arg-written text a s p ps this is g ∙ one-part (whole.arg_text (wording p) (arg_of text a s).0) (pieces_text ps)
 arg_list-written text (ArgList.more_args list comma a) s p ps this is g =
     let x = arg_list_of text list s in
     let y = arg_of text a x.1 in
     let w = wording p in
     arg_list-written text list s p (mark kinds.Comma ∷ space ∷ arg_pieces text (bare_arg a) ps) this is.0 (then (arg-grows text a x.1) g)
-    ∙ ap (λ z. joined (args_parts w x.0) ++ (44 ∷ 32 ∷ z)) (arg-written text a x.1 p ps this is.2 g)
+    ∙ ap (λ z. parts_text (args_parts w x.0) ++ (44 ∷ 32 ∷ z)) (arg-written text a x.1 p ps this is.2 g)
     ∙ comma-part (args_parts w x.0) (whole.arg_text w y.0) (pieces_text ps)
-    ∙ ap (λ z. joined z ++ pieces_text ps) (sym (args-snoc w x.0 y.0 (list-some text list s)))
+    ∙ ap (λ z. parts_text z ++ pieces_text ps) (sym (args-snoc w x.0 y.0 (list-some text list s)))
 
 args-written : (text : List ℕ) (a : Args) (s p : Listing) (ps : List Piece) → HasThis p → AreArgs a → Grows (args_of text a s).1 p →
-    pieces_text (args_pieces text (bare_args a) ps) ≡ joined (args_parts (wording p) (args_of text a s).0) ++ pieces_text ps
+    pieces_text (args_pieces text (bare_args a) ps) ≡ parts_text (args_parts (wording p) (args_of text a s).0) ++ pieces_text ps
 args-written text Args.no_args s p ps this is g = refl
 args-written text (Args.args list) s p ps this is g = arg_list-written text list s p ps this is g
 
@@ -70,19 +70,19 @@ recv-written : (text : List ℕ) (a : RecvTree) (s p : Listing) (ps : List Piece
     pieces_text (recv_pieces text a ps) ≡ receiver_text p.names (recv_of text a s).0 (recv_of text a s).1 ++ pieces_text ps
 recv-written text (RecvTree.lent name) s p ps this is g = var-written text name s p ps this is g
 recv-written text (RecvTree.given opening word name closing) s p ps this is g =
-    ap (λ z. codes "(consume " ++ z) (var-written text name s p (mark kinds.CloseParen ∷ ps) this is.2 g) ∙ three-parts (codes "(consume ") (whole.name_text p.names (var text name s).0) (codes ")") (pieces_text ps)
+    ap (λ z. codes "(consume " ++ z) (var-written text name s p (mark kinds.CloseParen ∷ ps) this is.name g) ∙ three-parts (codes "(consume ") (whole.name_text p.names (var text name s).0) (codes ")") (pieces_text ps)
 
 pub call-written : (text : List ℕ) (a : CallTree) (s p : Listing) (ps : List Piece) → HasThis p → IsCall a → Grows (call_of text a s).1 p →
-    pieces_text (call_pieces text (bare_call a) ps) ≡ joined (call_parts (wording p) (call_of text a s).0) ++ pieces_text ps
+    pieces_text (call_pieces text (bare_call a) ps) ≡ parts_text (call_parts (wording p) (call_of text a s).0) ++ pieces_text ps
 call-written text (CallTree.call recv dot name opening list closing) s p ps this is g =
     let x = recv_of text recv s in
     let y = ident text name x.2 in
     let g2 = then (args-grows text list y.1) g in
     let rc = receiver_text p.names x.0 x.1 in
     let n = whole.name_text p.names y.0 in
-    recv-written text recv s p (mark kinds.Dot ∷ name_piece text name ∷ mark kinds.OpenParen ∷ args_pieces text (bare_args list) (mark kinds.CloseParen ∷ ps)) this is.0 (then (ident-grows text name x.2) g2)
+    recv-written text recv s p (mark kinds.Dot ∷ name_piece text name ∷ mark kinds.OpenParen ∷ args_pieces text (bare_args list) (mark kinds.CloseParen ∷ ps)) this is.receiver (then (ident-grows text name x.2) g2)
     ∙ ap (λ z. rc ++ (46 ∷ z)) (name-written text name x.2 p (mark kinds.OpenParen ∷ args_pieces text (bare_args list) (mark kinds.CloseParen ∷ ps)) g2)
-    ∙ ap (λ z. rc ++ (46 ∷ (n ++ (40 ∷ z)))) (args-written text list y.1 p (mark kinds.CloseParen ∷ ps) this is.4 g)
+    ∙ ap (λ z. rc ++ (46 ∷ (n ++ (40 ∷ z)))) (args-written text list y.1 p (mark kinds.CloseParen ∷ ps) this is.args g)
     ∙ call-join rc n (args_parts (wording p) (args_of text list y.1).0) (pieces_text ps)
 
 -- a type and a name

@@ -8,8 +8,8 @@ use Rattle.std.proofs.lemmas.List.Quantifiers.{position-Some}
 use Rattle.std.proofs.lemmas.Option.{slice_get-get_or}
 use Rattle.std.proofs.lemmas.Slice.Eq.{bytes_eq-Decides}
 use Rattle.perm_tree.specs.Places.{Listing}
-use Rattle.perm_tree.specs.Canonical as canonical
-use Rattle.perm_tree.specs.Canonical.{joined, word, Written, tight, operand, written, written_at, all_written, perm_text, operator_text, sign_text}
+use Rattle.perm_tree.specs.Printer.Expressions as canonical
+use Rattle.perm_tree.specs.Printer.Expressions.{parts_text, word, ExprText, tight_text, operand, expr_text_of, expr_text_at, expr_texts_of, perm_text, operator_text, sign_text}
 use Rattle.perm_tree.specs.declared.ast.Perm.{Perm}
 use Rattle.perm_tree.specs.declared.ast.Perm.TheVariants.{Isolated, Immutable, Readable, Writable}
 use Rattle.perm_tree.specs.declared.ast.UnaryOp.{UnaryOp}
@@ -23,10 +23,10 @@ use Rattle.perm_tree.specs.declared.tokens.TokenKind.TheVariants as kinds
 use Rattle.perm_tree.proofs.Entries.{ReadsBefore, entries_of-at}
 use Rattle.perm_lex.specs.Lexes.{Piece, pieces_text}
 use Rattle.perm_parse.specs.Grammar.{TypeTree, ExprTree, IsVar, IsExpr, looseness, level, perm_word, unary_sign, sign}
-use Rattle.perm_parse.specs.Meaning.{numbered, ident, var_as, var, push_expr, type_of, expr_of}
-use Rattle.perm_parse.proofs.RoundTrip.CanonicalTrees.{bare, enclosed, right_operand}
+use Rattle.perm_parse.specs.Meaning.{number_at, ident, var_as, var, push_expr, type_of, expr_of}
+use Rattle.perm_parse.proofs.RoundTrip.CanonicalTrees.{bare, enclose, right_operand}
 use Rattle.perm_parse.proofs.RoundTrip.CanonicalPieces.{spelled_as, mark, space, name_bytes, name_piece, var_piece_as, var_piece, type_pieces, expr_pieces}
-use Rattle.perm_parse.proofs.RoundTrip.TextParts.{joined-append}
+use Rattle.perm_tree.proofs.Printer.Texts.{parts_text-append}
 use Rattle.perm_parse.proofs.Walks.ListGrowth.{Front, front-length, Grows, then, expr-grows, push_expr-grows}
 
 -- ---- lists that begin with others
@@ -51,7 +51,7 @@ pub record HasThis (p : Listing) : Type 0 where
 pub ident-written : (text : List ℕ) (t : Token) (s p : Listing) → Grows (ident text t s).1 p → word p.names (ident text t s).0.name ≡ name_bytes text t
 ident-written text t s p g = go (position (λ other. bytes_eq other (name_bytes text t)) s.names) refl g
   where
-    go : (o : Option ℕ) → position (λ other. bytes_eq other (name_bytes text t)) s.names ≡ o → Grows (numbered (name_bytes text t) s o).1 p → word p.names (numbered (name_bytes text t) s o).0 ≡ name_bytes text t
+    go : (o : Option ℕ) → position (λ other. bytes_eq other (name_bytes text t)) s.names ≡ o → Grows (number_at (name_bytes text t) s o).1 p → word p.names (number_at (name_bytes text t) s o).0 ≡ name_bytes text t
     go (Some at) e h =
         let k = position-Some (λ other. bytes_eq other (name_bytes text t)) s.names at [] e in
         get-front s.names p.names at [] h.names k.0 ∙ (bytes_eq-Decides (get_or s.names at []) (name_bytes text t)).0 k.1
@@ -84,22 +84,22 @@ type-written text (TypeTree.object_type q perm name) s p ps g =
     ap (λ w. w ++ (32 ∷ pieces_text (name_piece text name ∷ ps))) (perm-same q) ∙ ap (λ w. perm_text q ++ (32 ∷ w)) (name-written text name s p ps last)
     ∙ parts (perm_text q) (word p.names (ident text name s).0.name) (pieces_text ps)
   where
-    parts : (a b r : List ℕ) → a ++ (32 ∷ (b ++ r)) ≡ joined (a ∷ codes " " ∷ b ∷ []) ++ r
+    parts : (a b r : List ℕ) → a ++ (32 ∷ (b ++ r)) ≡ parts_text (a ∷ codes " " ∷ b ∷ []) ++ r
     parts a b r = simp (append_assoc, append-nil)
 type-written text (TypeTree.array_type q perm word opening closing) s p ps g =
     ap (λ w. w ++ (codes " long[]" ++ pieces_text ps)) (perm-same q) ∙ parts (perm_text q) (codes " long[]") (pieces_text ps)
   where
-    parts : (a b r : List ℕ) → a ++ (b ++ r) ≡ joined (a ∷ b ∷ []) ++ r
+    parts : (a b r : List ℕ) → a ++ (b ++ r) ≡ parts_text (a ∷ b ∷ []) ++ r
     parts a b r = simp (append_assoc, append-nil)
 
 -- ---- expressions
 
-abbrev pub at : Listing → ℕ → Written
-at p k = written_at (all_written p.names p.exprs) k
+abbrev pub at : Listing → ℕ → ExprText
+at p k = expr_text_at (expr_texts_of p.names p.exprs) k
 
 -- the entry of an expression that was pushed, where it is made of the entries before it
-entry-pushed : (e : Expr) (s p : Listing) → Grows (push_expr e s).1 p → ReadsBefore (written p.names) (length s.exprs) e → at p (length s.exprs) ≡ written p.names (all_written p.names p.exprs) e
-entry-pushed e s p g reads = entries_of-at (written p.names) p.exprs (length s.exprs) e (tight []) (slice-pushed s.exprs p.exprs e g.exprs) reads
+entry-pushed : (e : Expr) (s p : Listing) → Grows (push_expr e s).1 p → ReadsBefore (expr_text_of p.names) (length s.exprs) e → at p (length s.exprs) ≡ expr_text_of p.names (expr_texts_of p.names p.exprs) e
+entry-pushed e s p g reads = entries_of-at (expr_text_of p.names) p.exprs (length s.exprs) e (tight_text []) (slice-pushed s.exprs p.exprs e g.exprs) reads
 
 expr-below : (text : List ℕ) (a : ExprTree) (s : Listing) → (expr_of text a s).0 < length (expr_of text a s).1.exprs
 expr-below text (ExprTree.number t) s = omega (arith, length-append s.exprs (node.Number (pos t.value) ∷ []))
@@ -114,27 +114,27 @@ expr-below text (ExprTree.binary o a t b) s =
     let y = expr_of text b x.1 in
     omega (arith, length-append y.1.exprs (node.Binary o x.0 y.0 ∷ []))
 
-reads-unary : (names : List (List ℕ)) (o : UnaryOp) (a n : ℕ) → a < n → ReadsBefore (written names) n (node.Unary o a)
-reads-unary names o a n l before after long = ap (λ (w : Written). tight (joined (sign_text o ∷ canonical.unary_operand w))) (get_or-append before after (tight []) a (omega arith))
+reads-unary : (names : List (List ℕ)) (o : UnaryOp) (a n : ℕ) → a < n → ReadsBefore (expr_text_of names) n (node.Unary o a)
+reads-unary names o a n l before after long = ap (λ (w : ExprText). tight_text (parts_text (sign_text o ∷ canonical.unary_operand w))) (get_or-append before after (tight_text []) a (omega arith))
 
-reads-binary : (names : List (List ℕ)) (o : BinaryOp) (a b n : ℕ) → a < n → b < n → ReadsBefore (written names) n (node.Binary o a b)
+reads-binary : (names : List (List ℕ)) (o : BinaryOp) (a b n : ℕ) → a < n → b < n → ReadsBefore (expr_text_of names) n (node.Binary o a b)
 reads-binary names o a b n l m before after long =
-    let x : written_at (before ++ after) a ≡ written_at before a = get_or-append before after (tight []) a (omega arith) in
-    let y : written_at (before ++ after) b ≡ written_at before b = get_or-append before after (tight []) b (omega arith) in
-    λ i. record { text = joined (canonical.left_operand o (x i) ++ operator_text o ∷ canonical.right_operand o (y i)); looseness = canonical.level o }
+    let x : expr_text_at (before ++ after) a ≡ expr_text_at before a = get_or-append before after (tight_text []) a (omega arith) in
+    let y : expr_text_at (before ++ after) b ≡ expr_text_at before b = get_or-append before after (tight_text []) b (omega arith) in
+    λ i. record { text = parts_text (canonical.left_operand o (x i) ++ operator_text o ∷ canonical.right_operand o (y i)); looseness = canonical.level o }
 
 -- what is written of an expression is its entry
 pub record ExprWritten (text : List ℕ) (p : Listing) (a : ExprTree) (s : Listing) : Type 0 where
   pub bytes : (ps : List Piece) → pieces_text (expr_pieces text (bare a) ps) ≡ (at p (expr_of text a s).0).text ++ pieces_text ps
   pub loose : looseness (bare a) ≡ (at p (expr_of text a s).0).looseness
 
-enclosed-written : (text : List ℕ) (b : Boolean) (e : ExprTree) (w : List ℕ) → ((ps : List Piece) → pieces_text (expr_pieces text e ps) ≡ w ++ pieces_text ps) →
-    (ps : List Piece) → pieces_text (expr_pieces text (enclosed b e) ps) ≡ joined (operand b w) ++ pieces_text ps
-enclosed-written text true e w h ps = ap (λ z. 40 ∷ z) (h (mark kinds.CloseParen ∷ ps)) ∙ parts w (pieces_text ps)
+enclose-written : (text : List ℕ) (b : Boolean) (e : ExprTree) (w : List ℕ) → ((ps : List Piece) → pieces_text (expr_pieces text e ps) ≡ w ++ pieces_text ps) →
+    (ps : List Piece) → pieces_text (expr_pieces text (enclose b e) ps) ≡ parts_text (operand b w) ++ pieces_text ps
+enclose-written text true e w h ps = ap (λ z. 40 ∷ z) (h (mark kinds.CloseParen ∷ ps)) ∙ parts w (pieces_text ps)
   where
-    parts : (w r : List ℕ) → 40 ∷ (w ++ (41 ∷ r)) ≡ joined (operand true w) ++ r
+    parts : (w r : List ℕ) → 40 ∷ (w ++ (41 ∷ r)) ≡ parts_text (operand true w) ++ r
     parts w r = simp (append_assoc, append-nil)
-enclosed-written text false e w h ps = h ps ∙ ap (λ z. z ++ pieces_text ps) (sym (append-nil w))
+enclose-written text false e w h ps = h ps ∙ ap (λ z. z ++ pieces_text ps) (sym (append-nil w))
 
 sign-same : (o : UnaryOp) → spelled_as (unary_sign o) ≡ sign_text o
 sign-same unary_op.Minus = refl
@@ -170,28 +170,28 @@ level-same op.Differs = refl
 level-same op.And = refl
 level-same op.Or = refl
 
-binary-parts : (A B : List (List ℕ)) (sp r op : List ℕ) → 32 ∷ (sp ++ 32 ∷ []) ≡ op → joined A ++ (32 ∷ (sp ++ (32 ∷ (joined B ++ r)))) ≡ joined (A ++ op ∷ B) ++ r
-binary-parts A B sp r op e = rw (← e, joined-append) (simp append_assoc)
+binary-parts : (A B : List (List ℕ)) (sp r op : List ℕ) → 32 ∷ (sp ++ 32 ∷ []) ≡ op → parts_text A ++ (32 ∷ (sp ++ (32 ∷ (parts_text B ++ r)))) ≡ parts_text (A ++ op ∷ B) ++ r
+binary-parts A B sp r op e = rw (← e, parts_text-append) (simp append_assoc)
 
 pub expr-written : (text : List ℕ) (a : ExprTree) (s p : Listing) → HasThis p → IsExpr a → Grows (expr_of text a s).1 p → ExprWritten text p a s
 expr-written text (ExprTree.number t) s p this is g =
     let h = entry-pushed _ s p g (λ before after l. refl) in
-    record { bytes = λ ps. ap (λ (z : Written). z.text ++ pieces_text ps) (sym h); loose = ap (λ (z : Written). z.looseness) (sym h) }
+    record { bytes = λ ps. ap (λ (z : ExprText). z.text ++ pieces_text ps) (sym h); loose = ap (λ (z : ExprText). z.looseness) (sym h) }
 expr-written text (ExprTree.true_word t) s p this is g =
     let h = entry-pushed _ s p g (λ before after l. refl) in
-    record { bytes = λ ps. ap (λ (z : Written). z.text ++ pieces_text ps) (sym h); loose = ap (λ (z : Written). z.looseness) (sym h) }
+    record { bytes = λ ps. ap (λ (z : ExprText). z.text ++ pieces_text ps) (sym h); loose = ap (λ (z : ExprText). z.looseness) (sym h) }
 expr-written text (ExprTree.false_word t) s p this is g =
     let h = entry-pushed _ s p g (λ before after l. refl) in
-    record { bytes = λ ps. ap (λ (z : Written). z.text ++ pieces_text ps) (sym h); loose = ap (λ (z : Written). z.looseness) (sym h) }
+    record { bytes = λ ps. ap (λ (z : ExprText). z.text ++ pieces_text ps) (sym h); loose = ap (λ (z : ExprText). z.looseness) (sym h) }
 expr-written text (ExprTree.null_word t) s p this is g =
     let h = entry-pushed _ s p g (λ before after l. refl) in
-    record { bytes = λ ps. ap (λ (z : Written). z.text ++ pieces_text ps) (sym h); loose = ap (λ (z : Written). z.looseness) (sym h) }
+    record { bytes = λ ps. ap (λ (z : ExprText). z.text ++ pieces_text ps) (sym h); loose = ap (λ (z : ExprText). z.looseness) (sym h) }
 expr-written text (ExprTree.variable t) s p this is g =
     let r = var text t s in
     let h = entry-pushed (node.Var r.0) r.1 p g (λ before after l. refl) in
     record {
-      bytes = λ ps. var-written text t s p ps this is (then (push_expr-grows (node.Var r.0) r.1) g) ∙ ap (λ (z : Written). z.text ++ pieces_text ps) (sym h);
-      loose = ap (λ (z : Written). z.looseness) (sym h);
+      bytes = λ ps. var-written text t s p ps this is (then (push_expr-grows (node.Var r.0) r.1) g) ∙ ap (λ (z : ExprText). z.text ++ pieces_text ps) (sym h);
+      loose = ap (λ (z : ExprText). z.looseness) (sym h);
     }
 expr-written text (ExprTree.parens opening e closing) s p this is g =
     let k = expr-written text e s p this is.1 g in
@@ -202,27 +202,27 @@ expr-written text (ExprTree.unary o t e) s p this is g =
     let h = entry-pushed (node.Unary o r.0) r.1 p g (reads-unary p.names o r.0 (length r.1.exprs) (expr-below text e s)) in
     record {
       bytes = λ ps.
-          ap (λ z. spelled_as (unary_sign o) ++ z) (enclosed-written text (ltb 0 (looseness (bare e))) (bare e) (at p r.0).text k.bytes ps)
-          ∙ (λ i. sign-same o i ++ (joined (operand (ltb 0 (k.loose i)) (at p r.0).text) ++ pieces_text ps))
-          ∙ sym (append_assoc (sign_text o) (joined (canonical.unary_operand (at p r.0))) (pieces_text ps))
-          ∙ ap (λ (z : Written). z.text ++ pieces_text ps) (sym h);
-      loose = ap (λ (z : Written). z.looseness) (sym h);
+          ap (λ z. spelled_as (unary_sign o) ++ z) (enclose-written text (ltb 0 (looseness (bare e))) (bare e) (at p r.0).text k.bytes ps)
+          ∙ (λ i. sign-same o i ++ (parts_text (operand (ltb 0 (k.loose i)) (at p r.0).text) ++ pieces_text ps))
+          ∙ sym (append_assoc (sign_text o) (parts_text (canonical.unary_operand (at p r.0))) (pieces_text ps))
+          ∙ ap (λ (z : ExprText). z.text ++ pieces_text ps) (sym h);
+      loose = ap (λ (z : ExprText). z.looseness) (sym h);
     }
 expr-written text (ExprTree.binary o a t b) s p this is g =
     let x = expr_of text a s in
     let y = expr_of text b x.1 in
     let g2 = then (push_expr-grows (node.Binary o x.0 y.0) y.1) g in
-    let k = expr-written text a s p this is.0 (then (expr-grows text b x.1) g2) in
-    let l = expr-written text b x.1 p this is.2 g2 in
+    let k = expr-written text a s p this is.left (then (expr-grows text b x.1) g2) in
+    let l = expr-written text b x.1 p this is.right g2 in
     let grown = front-length x.1.exprs y.1.exprs (expr-grows text b x.1).exprs in
     let below : x.0 < length y.1.exprs = omega (arith, expr-below text a s) in
     let h = entry-pushed (node.Binary o x.0 y.0) y.1 p g (reads-binary p.names o x.0 y.0 (length y.1.exprs) below (expr-below text b x.1)) in
     record {
       bytes = λ ps.
-          enclosed-written text (ltb (level o) (looseness (bare a))) (bare a) (at p x.0).text k.bytes (space ∷ mark (sign o) ∷ space ∷ expr_pieces text (right_operand (level o) (bare b)) ps)
-          ∙ ap (λ z. joined (operand (ltb (level o) (looseness (bare a))) (at p x.0).text) ++ (32 ∷ (spelled_as (sign o) ++ (32 ∷ z)))) (enclosed-written text (leb (level o) (looseness (bare b))) (bare b) (at p y.0).text l.bytes ps)
+          enclose-written text (ltb (level o) (looseness (bare a))) (bare a) (at p x.0).text k.bytes (space ∷ mark (sign o) ∷ space ∷ expr_pieces text (right_operand (level o) (bare b)) ps)
+          ∙ ap (λ z. parts_text (operand (ltb (level o) (looseness (bare a))) (at p x.0).text) ++ (32 ∷ (spelled_as (sign o) ++ (32 ∷ z)))) (enclose-written text (leb (level o) (looseness (bare b))) (bare b) (at p y.0).text l.bytes ps)
           ∙ binary-parts (operand (ltb (level o) (looseness (bare a))) (at p x.0).text) (operand (leb (level o) (looseness (bare b))) (at p y.0).text) (spelled_as (sign o)) (pieces_text ps) (operator_text o) (operator-same o)
-          ∙ (λ i. joined (operand (ltb (level-same o i) (k.loose i)) (at p x.0).text ++ operator_text o ∷ operand (leb (level-same o i) (l.loose i)) (at p y.0).text) ++ pieces_text ps)
-          ∙ ap (λ (z : Written). z.text ++ pieces_text ps) (sym h);
-      loose = level-same o ∙ ap (λ (z : Written). z.looseness) (sym h);
+          ∙ (λ i. parts_text (operand (ltb (level-same o i) (k.loose i)) (at p x.0).text ++ operator_text o ∷ operand (leb (level-same o i) (l.loose i)) (at p y.0).text) ++ pieces_text ps)
+          ∙ ap (λ (z : ExprText). z.text ++ pieces_text ps) (sym h);
+      loose = level-same o ∙ ap (λ (z : ExprText). z.looseness) (sym h);
     }

@@ -2,9 +2,9 @@
 use Rattle.std.proofs.Common.{◌≡◌, ℕ, ◌<◌, List, [], ◌∷◌, ◌++◌, map, codes, refl, sym, ◌∙◌, ap, append_assoc, append-nil}
 use Rattle.std.proofs.lemmas.List.{map-append}
 use Rattle.perm_tree.specs.Places.{Listing}
-use Rattle.perm_tree.specs.Canonical.{joined, perm_text}
-use Rattle.perm_tree.specs.CanonicalText as whole
-use Rattle.perm_tree.specs.CanonicalText.{Wording, wording, indent, block_parts, stmt_texts, declared_text, params_parts, more_params_parts, Member, sorted_by}
+use Rattle.perm_tree.specs.Printer.Expressions.{parts_text, perm_text}
+use Rattle.perm_tree.specs.Printer.Programs as whole
+use Rattle.perm_tree.specs.Printer.Programs.{Wording, wording, indent, block_parts, stmt_texts, declared_text, params_parts, more_params_parts, Member, sort_by}
 use Rattle.perm_tree.specs.declared.ast.FieldDecl.{FieldDecl}
 use Rattle.perm_tree.specs.declared.ast.Method.{Method}
 use Rattle.perm_tree.specs.declared.tokens.Token.{Token}
@@ -13,14 +13,14 @@ use Rattle.perm_lex.specs.Lexes.{Piece, pieces_text}
 use Rattle.perm_parse.specs.Grammar.{ParamList, Params, MemberTree, Members, IsMember, AreMembers, perm_word, member_text, members_text}
 use Rattle.perm_parse.specs.Meaning.{ident, type_of, arg_of, stmts_of, param_list_of, params_of, method_of, member_of, members_of}
 use Rattle.perm_parse.proofs.RoundTrip.BareTrees.{bare_arg, bare_stmts, bare_member, bare_members}
-use Rattle.perm_parse.proofs.RoundTrip.CanonicalPieces.{mark, space, line, ending, name_piece, type_pieces, arg_pieces, stmts_pieces, param_list_pieces, params_pieces, member_pieces, members_pieces}
+use Rattle.perm_parse.proofs.RoundTrip.CanonicalPieces.{mark, space, line, end_pieces, name_piece, type_pieces, arg_pieces, stmts_pieces, param_list_pieces, params_pieces, member_pieces, members_pieces}
 use Rattle.perm_parse.proofs.Walks.ListGrowth.{Grows, then, ident-grows, type-grows, arg-grows, stmts-grows, params-grows, member-grows}
 use Rattle.perm_parse.proofs.RoundTrip.TextParts.{one-part, three-parts, and-part, comma-part, method-join}
 use Rattle.perm_parse.proofs.RoundTrip.WrittenExpressions.{HasThis, perm-same}
 use Rattle.perm_parse.proofs.RoundTrip.WrittenArguments.{arg-written, declared-written}
 use Rattle.perm_parse.proofs.RoundTrip.WrittenStatements.{stmts-written}
-use Rattle.perm_parse.proofs.RoundTrip.TokenSuffixes.{Ascending, AllBehind, member_name, name-trails, from-trails, members-trails}
-use Rattle.perm_parse.proofs.RoundTrip.SortedLists.{EachLess, sorted-last}
+use Rattle.perm_parse.proofs.RoundTrip.TokenSuffixes.{IsAscending, AllBehind, member_name, name-trails, from-trails, members-trails}
+use Rattle.perm_parse.proofs.RoundTrip.SortedLists.{EachLess, sort_by-last}
 
 -- ---- parameters
 
@@ -47,7 +47,7 @@ list-some text (ParamList.more_params list comma ty name) s =
     snoc-some z.0 (record { ty = x.0; name = (ident text name x.1).0 })
 
 param_list-written : (text : List ℕ) (a : ParamList) (s p : Listing) (ps : List Piece) → Grows (param_list_of text a s).1 p →
-    pieces_text (param_list_pieces text a ps) ≡ joined (params_parts (wording p) (param_list_of text a s).0) ++ pieces_text ps
+    pieces_text (param_list_pieces text a ps) ≡ parts_text (params_parts (wording p) (param_list_of text a s).0) ++ pieces_text ps
 param_list-written text (ParamList.one_param ty name) s p ps g =
     let x = type_of text ty s in
     declared-written text ty name s p ps g ∙ one-part (declared_text p.names x.0 (ident text name x.1).0) (pieces_text ps)
@@ -58,12 +58,12 @@ param_list-written text (ParamList.more_params list comma ty name) s p ps g =
     let d = declared_text p.names x.0 y.0 in
     let A = params_parts (wording p) z.0 in
     param_list-written text list s p (mark kinds.Comma ∷ space ∷ type_pieces text ty (space ∷ name_piece text name ∷ ps)) (then (type-grows text ty z.1) (then (ident-grows text name x.1) g))
-    ∙ ap (λ v. joined A ++ (44 ∷ 32 ∷ v)) (declared-written text ty name z.1 p ps g)
+    ∙ ap (λ v. parts_text A ++ (44 ∷ 32 ∷ v)) (declared-written text ty name z.1 p ps g)
     ∙ comma-part A d (pieces_text ps)
-    ∙ ap (λ v. joined v ++ pieces_text ps) (sym (params-snoc (wording p) z.0 (record { ty = x.0; name = y.0 }) (list-some text list s)))
+    ∙ ap (λ v. parts_text v ++ pieces_text ps) (sym (params-snoc (wording p) z.0 (record { ty = x.0; name = y.0 }) (list-some text list s)))
 
 params-written : (text : List ℕ) (a : Params) (s p : Listing) (ps : List Piece) → Grows (params_of text a s).1 p →
-    pieces_text (params_pieces text a ps) ≡ joined (params_parts (wording p) (params_of text a s).0) ++ pieces_text ps
+    pieces_text (params_pieces text a ps) ≡ parts_text (params_parts (wording p) (params_of text a s).0) ++ pieces_text ps
 params-written text Params.no_params s p ps g = refl
 params-written text (Params.params list) s p ps g = param_list-written text list s p ps g
 
@@ -76,9 +76,9 @@ entry text p (MemberTree.field_member ty name end) s =
     whole.field_member p (record { ty = x.0; name = (ident text name x.1).0 })
 entry text p (MemberTree.method ty name opening list closing q perm start b word a end finish) s =
     let head = method_of text ty name list s in
-    let x = stmts_of text b head.3 in
+    let x = stmts_of text b head.program in
     let y = arg_of text a x.1 in
-    whole.method_member p (record { result = head.0; name = head.1; params = head.2; receiver = q; body = record { stmts = x.0 }; back = y.0; span = record { start = word.span.start; end = end.span.end } })
+    whole.method_member p (record { result = head.result; name = head.name; params = head.params; receiver = q; body = record { stmts = x.0 }; back = y.0; span = record { start = word.span.start; end = end.span.end } })
 
 abbrev pub entries : List ℕ → Listing → Members → Listing → List Member
 entries text p Members.no_members s = []
@@ -88,7 +88,7 @@ member-written : (text : List ℕ) (a : MemberTree) (fs : List FieldDecl) (ms : 
     pieces_text (member_pieces text (bare_member a) ps) ≡ (entry text p a s).text ++ pieces_text ps
 member-written text (MemberTree.field_member ty name end) fs ms s p ps this is g =
     let x = type_of text ty s in
-    ap (λ z. indent 1 ++ z) (declared-written text ty name s p (ending ps) g) ∙ three-parts (indent 1) (declared_text p.names x.0 (ident text name x.1).0) (codes ";\n") (pieces_text ps)
+    ap (λ z. indent 1 ++ z) (declared-written text ty name s p (end_pieces ps) g) ∙ three-parts (indent 1) (declared_text p.names x.0 (ident text name x.1).0) (codes ";\n") (pieces_text ps)
 member-written text (MemberTree.method ty name opening list closing q perm start b word a end finish) fs ms s p ps this is g =
     let x = type_of text ty s in
     let n = ident text name x.1 in
@@ -101,28 +101,28 @@ member-written text (MemberTree.method ty name opening list closing q perm start
     let gv = then (arg-grows text a v.1) g in
     let gl = then (stmts-grows text b l.1) gv in
     let gn = then (params-grows text list n.1) gl in
-    let last = ending (space ∷ space ∷ mark kinds.CloseBrace ∷ line ∷ ps) in
+    let last = end_pieces (space ∷ space ∷ mark kinds.CloseBrace ∷ line ∷ ps) in
     let back = space ∷ space ∷ space ∷ space ∷ mark kinds.Return ∷ space ∷ arg_pieces text (bare_arg a) last in
     let body = stmts_pieces text 2 (bare_stmts b) back in
     let behind = mark kinds.CloseParen ∷ space ∷ mark (perm_word q) ∷ space ∷ mark kinds.OpenBrace ∷ line ∷ body in
     ap (λ z. indent 1 ++ z) (declared-written text ty name s p (mark kinds.OpenParen ∷ params_pieces text list behind) gn)
     ∙ ap (λ z. indent 1 ++ (d ++ (codes "(" ++ z))) (params-written text list n.1 p behind gl)
-    ∙ ap (λ z. indent 1 ++ (d ++ (codes "(" ++ (joined A ++ (codes ") " ++ (z ++ (codes " {\n" ++ pieces_text body))))))) (perm-same q)
-    ∙ ap (λ z. indent 1 ++ (d ++ (codes "(" ++ (joined A ++ (codes ") " ++ (perm_text q ++ (codes " {\n" ++ z))))))) (stmts-written text 2 b l.1 p back this is.7 gv)
-    ∙ ap (λ z. indent 1 ++ (d ++ (codes "(" ++ (joined A ++ (codes ") " ++ (perm_text q ++ (codes " {\n" ++ (joined B ++ (indent 2 ++ (codes "return " ++ z)))))))))) (arg-written text a v.1 p last this is.9 g)
+    ∙ ap (λ z. indent 1 ++ (d ++ (codes "(" ++ (parts_text A ++ (codes ") " ++ (z ++ (codes " {\n" ++ pieces_text body))))))) (perm-same q)
+    ∙ ap (λ z. indent 1 ++ (d ++ (codes "(" ++ (parts_text A ++ (codes ") " ++ (perm_text q ++ (codes " {\n" ++ z))))))) (stmts-written text 2 b l.1 p back this is.body gv)
+    ∙ ap (λ z. indent 1 ++ (d ++ (codes "(" ++ (parts_text A ++ (codes ") " ++ (perm_text q ++ (codes " {\n" ++ (parts_text B ++ (indent 2 ++ (codes "return " ++ z)))))))))) (arg-written text a v.1 p last this is.back g)
     ∙ method-join (indent 1) d (codes "(") A (codes ") ") (perm_text q) (codes " {\n") B (indent 2) (codes "return ") (whole.arg_text (wording p) y.0) (codes ";\n") (indent 1) (codes "}\n") (pieces_text ps)
 
 pub members-written : (text : List ℕ) (a : Members) (s p : Listing) (ps : List Piece) → HasThis p → AreMembers a → Grows (members_of text a s).2 p →
-    pieces_text (members_pieces text (bare_members a) ps) ≡ joined (map (λ (m : Member). m.text) (entries text p a s)) ++ pieces_text ps
+    pieces_text (members_pieces text (bare_members a) ps) ≡ parts_text (map (λ (m : Member). m.text) (entries text p a s)) ++ pieces_text ps
 members-written text Members.no_members s p ps this is g = refl
 members-written text (Members.more_members list x) s p ps this is g =
     let r = members_of text list s in
     let e = entry text p x r.2 in
     let A = map (λ (m : Member). m.text) (entries text p list s) in
     members-written text list s p (member_pieces text (bare_member x) ps) this is.0 (then (member-grows text x r.0 r.1 r.2) g)
-    ∙ ap (λ z. joined A ++ z) (member-written text x r.0 r.1 r.2 p ps this is.1 g)
+    ∙ ap (λ z. parts_text A ++ z) (member-written text x r.0 r.1 r.2 p ps this is.1 g)
     ∙ and-part A e.text (pieces_text ps)
-    ∙ ap (λ z. joined z ++ pieces_text ps) (sym (map-append (λ (m : Member). m.text) (entries text p list s) (e ∷ [])))
+    ∙ ap (λ z. parts_text z ++ pieces_text ps) (sym (map-append (λ (m : Member). m.text) (entries text p list s) (e ∷ [])))
 
 -- ---- their order
 
@@ -143,7 +143,7 @@ one-early : (text : List ℕ) (p : Listing) (x : MemberTree) (r : List FieldDecl
 one-early text p (MemberTree.field_member ty name end) r n h l = record { fields = map-snoc (whole.field_member p) n r.0 _ h.fields l; methods = h.methods }
 one-early text p (MemberTree.method ty name opening list closing q perm start b word a end finish) r n h l = record { fields = h.fields; methods = map-snoc (whole.method_member p) n r.1 _ h.methods l }
 
-early : (text : List ℕ) (p : Listing) (a : Members) (s : Listing) (us : List Token) (n : ℕ) → Ascending (members_text a us) → ((k : ℕ) → AllBehind k us → k < n) → Early p n (members_of text a s)
+early : (text : List ℕ) (p : Listing) (a : Members) (s : Listing) (us : List Token) (n : ℕ) → IsAscending (members_text a us) → ((k : ℕ) → AllBehind k us → k < n) → Early p n (members_of text a s)
 early text p Members.no_members s us n asc less = record { fields = tt; methods = tt }
 early text p (Members.more_members list x) s us n asc less =
     let t = name-trails x us in
@@ -153,29 +153,29 @@ early text p (Members.more_members list x) s us n asc less =
     one-early text p x (members_of text list s) n rest (less (member_name x).span.start (f.behind (member_name x).span.start named.0))
 
 one-sorted : (text : List ℕ) (p : Listing) (x : MemberTree) (r : List FieldDecl × List Method × Listing) → Early p (member_name x).span.start r →
-    (let y = member_of text x r.0 r.1 r.2 in sorted_by (λ (m : Member). m.start) (map (whole.field_member p) y.0 ++ map (whole.method_member p) y.1))
-    ≡ sorted_by (λ (m : Member). m.start) (map (whole.field_member p) r.0 ++ map (whole.method_member p) r.1) ++ entry text p x r.2 ∷ []
+    (let y = member_of text x r.0 r.1 r.2 in sort_by (λ (m : Member). m.start) (map (whole.field_member p) y.0 ++ map (whole.method_member p) y.1))
+    ≡ sort_by (λ (m : Member). m.start) (map (whole.field_member p) r.0 ++ map (whole.method_member p) r.1) ++ entry text p x r.2 ∷ []
 one-sorted text p (MemberTree.field_member ty name end) r h =
     let x = type_of text ty r.2 in
     let d : FieldDecl = record { ty = x.0; name = (ident text name x.1).0 } in
     let F = map (whole.field_member p) r.0 in
     let M = map (whole.method_member p) r.1 in
-    ap (sorted_by (λ (m : Member). m.start)) (ap (λ z. z ++ M) (map-append (whole.field_member p) r.0 (d ∷ [])) ∙ append_assoc F (whole.field_member p d ∷ []) M)
-    ∙ sorted-last (λ (m : Member). m.start) F (whole.field_member p d) M h.fields h.methods
+    ap (sort_by (λ (m : Member). m.start)) (ap (λ z. z ++ M) (map-append (whole.field_member p) r.0 (d ∷ [])) ∙ append_assoc F (whole.field_member p d ∷ []) M)
+    ∙ sort_by-last (λ (m : Member). m.start) F (whole.field_member p d) M h.fields h.methods
 one-sorted text p (MemberTree.method ty name opening list closing q perm start b word a end finish) r h =
     let head = method_of text ty name list r.2 in
-    let x = stmts_of text b head.3 in
+    let x = stmts_of text b head.program in
     let y = arg_of text a x.1 in
-    let d : Method = record { result = head.0; name = head.1; params = head.2; receiver = q; body = record { stmts = x.0 }; back = y.0; span = record { start = word.span.start; end = end.span.end } } in
+    let d : Method = record { result = head.result; name = head.name; params = head.params; receiver = q; body = record { stmts = x.0 }; back = y.0; span = record { start = word.span.start; end = end.span.end } } in
     let F = map (whole.field_member p) r.0 in
     let M = map (whole.method_member p) r.1 in
-    ap (sorted_by (λ (m : Member). m.start)) (ap (λ z. F ++ z) (map-append (whole.method_member p) r.1 (d ∷ [])) ∙ sym (append_assoc F M (whole.method_member p d ∷ [])))
-    ∙ sorted-last (λ (m : Member). m.start) (F ++ M) (whole.method_member p d) [] (each-append (whole.method_member p d).start F M h.fields h.methods) tt
-    ∙ ap (λ z. sorted_by (λ (m : Member). m.start) z ++ whole.method_member p d ∷ []) (append-nil (F ++ M))
+    ap (sort_by (λ (m : Member). m.start)) (ap (λ z. F ++ z) (map-append (whole.method_member p) r.1 (d ∷ [])) ∙ sym (append_assoc F M (whole.method_member p d ∷ [])))
+    ∙ sort_by-last (λ (m : Member). m.start) (F ++ M) (whole.method_member p d) [] (each-append (whole.method_member p d).start F M h.fields h.methods) tt
+    ∙ ap (λ z. sort_by (λ (m : Member). m.start) z ++ whole.method_member p d ∷ []) (append-nil (F ++ M))
 
 -- in the order of their names the members stand as in the tree
-pub members-sorted : (text : List ℕ) (p : Listing) (a : Members) (s : Listing) (us : List Token) → Ascending (members_text a us) →
-    sorted_by (λ (m : Member). m.start) (map (whole.field_member p) (members_of text a s).0 ++ map (whole.method_member p) (members_of text a s).1) ≡ entries text p a s
+pub members-sorted : (text : List ℕ) (p : Listing) (a : Members) (s : Listing) (us : List Token) → IsAscending (members_text a us) →
+    sort_by (λ (m : Member). m.start) (map (whole.field_member p) (members_of text a s).0 ++ map (whole.method_member p) (members_of text a s).1) ≡ entries text p a s
 members-sorted text p Members.no_members s us asc = refl
 members-sorted text p (Members.more_members list x) s us asc =
     let r = members_of text list s in

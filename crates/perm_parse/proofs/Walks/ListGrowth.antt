@@ -10,7 +10,7 @@ use Rattle.perm_tree.specs.declared.ast.FieldDecl.{FieldDecl}
 use Rattle.perm_tree.specs.declared.ast.Method.{Method}
 use Rattle.perm_tree.specs.declared.tokens.Token.{Token}
 use Rattle.perm_parse.specs.Grammar.{TypeTree, ExprTree, ArgTree, Args, RhsTree, BlockTree, StmtTree, Stmts, Params, MemberTree, Members, Classes}
-use Rattle.perm_parse.specs.Meaning.{numbered, ident, push_expr, push_stmt, push_mention, type_of, expr_of, arg_of, args_of, rhs_of, block_of, stmt_of, stmts_of, params_of, member_of, members_of, classes_of}
+use Rattle.perm_parse.specs.Meaning.{number_at, ident, push_expr, push_stmt, push_mention, type_of, expr_of, arg_of, args_of, rhs_of, block_of, stmt_of, stmts_of, params_of, member_of, members_of, classes_of}
 use Rattle.perm_parse.proofs.Walks.{IsKept, ident-kept, type-kept, expr-kept, arg-kept, args-kept, rhs-kept, block-kept, stmt-kept, stmts-kept, params-kept, member-kept, members-kept, classes-kept}
 
 -- a list begins with another one
@@ -43,9 +43,9 @@ pub then : {s t u : Listing} → Grows s t → Grows t u → Grows s u
 then g h = record { names = front-trans g.names h.names; exprs = front-trans g.exprs h.exprs; stmts = front-trans g.stmts h.stmts }
 
 -- each move makes the lists grow or leaves them
-numbered-grows : (name : List ℕ) (s : Listing) (o : Option ℕ) → Grows s (numbered name s o).1
-numbered-grows name s (Some at) = stays s
-numbered-grows name s None = record { names = front-push s.names name; exprs = front-refl s.exprs; stmts = front-refl s.stmts }
+number_at-grows : (name : List ℕ) (s : Listing) (o : Option ℕ) → Grows s (number_at name s o).1
+number_at-grows name s (Some at) = stays s
+number_at-grows name s None = record { names = front-push s.names name; exprs = front-refl s.exprs; stmts = front-refl s.stmts }
 
 pub push_expr-grows : (e : Expr) (s : Listing) → Grows s (push_expr e s).1
 push_expr-grows e s = record { names = front-refl s.names; exprs = front-push s.exprs e; stmts = front-refl s.stmts }
@@ -60,7 +60,7 @@ class-grows : (c : ClassDecl) (s : Listing) → Grows s (record s { classes = s.
 class-grows c s = record { names = front-refl s.names; exprs = front-refl s.exprs; stmts = front-refl s.stmts }
 
 grows : IsKept Grows
-grows = record { stays = stays; then = then; name = λ text t s. numbered-grows _ s _; expr = push_expr-grows; stmt = push_stmt-grows; mention = mention-grows }
+grows = record { stays = stays; then = then; name = λ text t s. number_at-grows _ s _; expr = push_expr-grows; stmt = push_stmt-grows; mention = mention-grows }
 
 -- ---- over each kind of tree
 

@@ -16,16 +16,16 @@ use Rattle.perm_tree.specs.declared.tokens.Token.{Token}
 use Rattle.perm_tree.specs.declared.tokens.TokenKind.{TokenKind}
 use Rattle.perm_tree.specs.declared.tokens.TokenKind.TheVariants as kinds
 use Rattle.perm_parse.specs.Grammar.{TypeTree, ExprTree, ArgTree, ArgList, Args, RecvTree, CallTree, TargetTree, RhsTree, BlockTree, StmtTree, Stmts, ParamList, Params, MemberTree, Members, Classes}
-use Rattle.perm_parse.specs.Meaning.{numbered, ident, var_as, var, push_expr, push_stmt, push_mention, type_of, expr_of, arg_of, arg_list_of, args_of, recv_of, call_of, target_of, rhs_of, block_of, stmt_of, stmts_of, param_list_of, params_of, method_of, member_of, members_of, classes_of, meaning, nothing_yet}
+use Rattle.perm_parse.specs.Meaning.{number_at, ident, var_as, var, push_expr, push_stmt, push_mention, type_of, expr_of, arg_of, arg_list_of, args_of, recv_of, call_of, target_of, rhs_of, block_of, stmt_of, stmts_of, param_list_of, params_of, method_of, member_of, members_of, classes_of, meaning, nothing_yet}
 use Rattle.perm_parse.proofs.Walks.{IsKept, ident-kept, rhs-kept, type-kept, params-kept, stmts-kept, arg-kept, member-kept}
 
 -- ---- numbers among the mentions
 
-abbrev mentioned : Listing → List ℕ
-mentioned s = map (λ i. i.name) s.mentions
+abbrev mention_names : Listing → List ℕ
+mention_names s = map (λ i. i.name) s.mentions
 
 abbrev Among : Listing → List ℕ → Type 0
-Among s ns = All (Contains (mentioned s)) ns
+Among s ns = All (Contains (mention_names s)) ns
 
 abbrev StayAmong : List ℕ → Listing → Listing → Type 0
 StayAmong ns s t = Among s ns → Among t ns
@@ -34,7 +34,7 @@ none-among : (ms : List ℕ) → All (Contains ms) []
 none-among ms = All-nil (Contains ms)
 
 both-among : (s : Listing) (ms ns : List ℕ) → Among s ms → Among s ns → Among s (ms ++ ns)
-both-among s = All-append (Contains (mentioned s))
+both-among s = All-append (Contains (mention_names s))
 
 -- what some elements name, and one more behind them
 more-among : {X : Type 0} (s : Listing) (f : X → List ℕ) (xs : List X) (x : X) → Among s (flat_map f xs) → Among s (f x) → Among s (flat_map f (xs ++ x ∷ []))
@@ -44,23 +44,23 @@ more-among s f xs x h k = rw (← flat_map_more f [] xs x) (both-among s (flat_m
 mention-among : (ns : List ℕ) (i : Ident) (s : Listing) → StayAmong ns s (push_mention i s)
 mention-among ns i s h =
     rw (map-append (λ (j : Ident). j.name) s.mentions (i ∷ []))
-    (All-weaker (Contains (mentioned s)) (Contains (mentioned s ++ i.name ∷ [])) (λ n. Contains-append_left (mentioned s) (i.name ∷ []) n) ns h)
+    (All-weaker (Contains (mention_names s)) (Contains (mention_names s ++ i.name ∷ [])) (λ n. Contains-append_left (mention_names s) (i.name ∷ []) n) ns h)
 
 itself-among : (i : Ident) (s : Listing) → Among (push_mention i s) (i.name ∷ [])
 itself-among i s =
     rw (map-append (λ (j : Ident). j.name) s.mentions (i ∷ []))
-    (All-cons (Contains (mentioned s ++ i.name ∷ [])) i.name [] (Contains-push (mentioned s) i.name) (All-nil (Contains (mentioned s ++ i.name ∷ []))))
+    (All-cons (Contains (mention_names s ++ i.name ∷ [])) i.name [] (Contains-push (mention_names s) i.name) (All-nil (Contains (mention_names s ++ i.name ∷ []))))
 
-numbered-among : (ns : List ℕ) (name : List ℕ) (s : Listing) (o : Option ℕ) → StayAmong ns s (numbered name s o).1
-numbered-among ns name s (Some at) h = h
-numbered-among ns name s None h = h
+number_at-among : (ns : List ℕ) (name : List ℕ) (s : Listing) (o : Option ℕ) → StayAmong ns s (number_at name s o).1
+number_at-among ns name s (Some at) h = h
+number_at-among ns name s None h = h
 
 -- so the mentions only grow
 among : (ns : List ℕ) → IsKept (StayAmong ns)
 among ns = record {
   stays = λ s h. h;
   then = λ {s} {t} {u} f g h. g (f h);
-  name = λ text t s. numbered-among ns _ s _;
+  name = λ text t s. number_at-among ns _ s _;
   expr = λ e s h. h;
   stmt = λ x s h. h;
   mention = mention-among ns;
@@ -76,8 +76,8 @@ type-among text (TypeTree.object_type p perm name) s = let r = ident text name s
 type-among text (TypeTree.array_type p perm word opening closing) s = none-among _
 
 -- a type is still known after the name that follows it
-typed-among : (text : List ℕ) (a : TypeTree) (name : Token) (s : Listing) → Among (ident text name (type_of text a s).1).1 (ty_classes (type_of text a s).0)
-typed-among text a name s = let ns = ty_classes (type_of text a s).0 in ident-kept (StayAmong ns) (among ns) text name (type_of text a s).1 (type-among text a s)
+type-still-among : (text : List ℕ) (a : TypeTree) (name : Token) (s : Listing) → Among (ident text name (type_of text a s).1).1 (ty_classes (type_of text a s).0)
+type-still-among text a name s = let ns = ty_classes (type_of text a s).0 in ident-kept (StayAmong ns) (among ns) text name (type_of text a s).1 (type-among text a s)
 
 -- a declaration more
 decl-among : (s : Listing) (ds : List FieldDecl) (t : Ty) (x : Ident) → Among s (decl_classes ds) → Among s (ty_classes t) → Among s (decl_classes (ds ++ record { ty = t; name = x } ∷ []))
@@ -88,14 +88,14 @@ stmt-among : (text : List ℕ) (a : StmtTree) (s : Listing) → Among (stmt_of t
 stmt-among text (StmtTree.declare ty name end) s =
     let x = type_of text ty s in
     let y = ident text name x.1 in
-    decl-among y.1 [] x.0 y.0 (none-among _) (typed-among text ty name s)
+    decl-among y.1 [] x.0 y.0 (none-among _) (type-still-among text ty name s)
 stmt-among text (StmtTree.assign (TargetTree.known name) equals r end) s = none-among _
 stmt-among text (StmtTree.assign (TargetTree.declared ty name) equals r end) s =
     let x = type_of text ty s in
     let y = ident text name x.1 in
     let ns = ty_classes x.0 in
     let t = (rhs_of text r y.1).1 in
-    decl-among t [] x.0 y.0 (none-among _) (rhs-kept (StayAmong ns) (among ns) text r y.1 (typed-among text ty name s))
+    decl-among t [] x.0 y.0 (none-among _) (rhs-kept (StayAmong ns) (among ns) text r y.1 (type-still-among text ty name s))
 stmt-among text (StmtTree.set_field name dot member equals a end) s = none-among _
 stmt-among text (StmtTree.set_item name opening i closing equals e end) s = none-among _
 stmt-among text (StmtTree.run_call c end) s = none-among _
@@ -110,14 +110,14 @@ param_list-among : (text : List ℕ) (a : ParamList) (s : Listing) → Among (pa
 param_list-among text (ParamList.one_param ty name) s =
     let x = type_of text ty s in
     let y = ident text name x.1 in
-    decl-among y.1 [] x.0 y.0 (none-among _) (typed-among text ty name s)
+    decl-among y.1 [] x.0 y.0 (none-among _) (type-still-among text ty name s)
 param_list-among text (ParamList.more_params list comma ty name) s =
     let z = param_list_of text list s in
     let x = type_of text ty z.1 in
     let y = ident text name x.1 in
     let ns = decl_classes z.0 in
     let before = ident-kept (StayAmong ns) (among ns) text name x.1 (type-kept (StayAmong ns) (among ns) text ty z.1 (param_list-among text list s)) in
-    decl-among y.1 z.0 x.0 y.0 before (typed-among text ty name z.1)
+    decl-among y.1 z.0 x.0 y.0 before (type-still-among text ty name z.1)
 
 params-among : (text : List ℕ) (a : Params) (s : Listing) → Among (params_of text a s).1 (decl_classes (params_of text a s).0)
 params-among text Params.no_params s = none-among _
@@ -135,7 +135,7 @@ member-among text (MemberTree.field_member ty name end) fs ms s h =
     let y = ident text name x.1 in
     let fields = decl_classes fs in
     let methods = flat_map method_classes ms in (
-      decl-among y.1 fs x.0 y.0 (member-kept (StayAmong fields) (among fields) text whole fs ms s h.0) (typed-among text ty name s),
+      decl-among y.1 fs x.0 y.0 (member-kept (StayAmong fields) (among fields) text whole fs ms s h.0) (type-still-among text ty name s),
       member-kept (StayAmong methods) (among methods) text whole fs ms s h.1,
     )
 member-among text (MemberTree.method ty name opening list closing p perm start b word a end finish) fs ms s h =
@@ -144,10 +144,10 @@ member-among text (MemberTree.method ty name opening list closing p perm start b
     let head = method_of text ty name list s in
     let fields = decl_classes fs in
     let methods = flat_map method_classes ms in
-    let result = ty_classes head.0 in
-    let params = decl_classes head.2 in
-    let behind : (ns : List ℕ) → Among head.3 ns → Among r.2 ns = λ ns k. arg-kept (StayAmong ns) (among ns) text a _ (stmts-kept (StayAmong ns) (among ns) text b head.3 k) in
-    let first = behind result (params-kept (StayAmong result) (among result) text list _ (typed-among text ty name s)) in
+    let result = ty_classes head.result in
+    let params = decl_classes head.params in
+    let behind : (ns : List ℕ) → Among head.program ns → Among r.2 ns = λ ns k. arg-kept (StayAmong ns) (among ns) text a _ (stmts-kept (StayAmong ns) (among ns) text b head.program k) in
+    let first = behind result (params-kept (StayAmong result) (among result) text list _ (type-still-among text ty name s)) in
     let second = behind params (params-among text list _) in (
       member-kept (StayAmong fields) (among fields) text whole fs ms s h.0,
       more-among r.2 method_classes ms _ (member-kept (StayAmong methods) (among methods) text whole fs ms s h.1) (both-among r.2 result params first second),
@@ -165,12 +165,12 @@ record IsMentioned (s : Listing) : Type 0 where
   stmts : Among s (flat_map stmt_classes s.stmts)
 
 -- each move keeps it, for a statement or a class where what its types name is known
-numbered-mentioned : (name : List ℕ) (s : Listing) (o : Option ℕ) → IsMentioned s → IsMentioned (numbered name s o).1
-numbered-mentioned name s (Some at) m = m
-numbered-mentioned name s None m = record { classes = m.classes; stmts = m.stmts }
+number_at-mentioned : (name : List ℕ) (s : Listing) (o : Option ℕ) → IsMentioned s → IsMentioned (number_at name s o).1
+number_at-mentioned name s (Some at) m = m
+number_at-mentioned name s None m = record { classes = m.classes; stmts = m.stmts }
 
 ident-mentioned : (text : List ℕ) (t : Token) (s : Listing) → IsMentioned s → IsMentioned (ident text t s).1
-ident-mentioned text t s m = numbered-mentioned _ s _ m
+ident-mentioned text t s m = number_at-mentioned _ s _ m
 
 mention-mentioned : (i : Ident) (s : Listing) → IsMentioned s → IsMentioned (push_mention i s)
 mention-mentioned i s m = record { classes = mention-among (flat_map member_classes s.classes) i s m.classes; stmts = mention-among (flat_map stmt_classes s.stmts) i s m.stmts }

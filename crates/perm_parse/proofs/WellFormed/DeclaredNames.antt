@@ -8,11 +8,12 @@ use Rattle.perm_tree.specs.declared.ast.ClassDecl.{ClassDecl}
 use Rattle.perm_tree.specs.declared.ast.FieldDecl.{FieldDecl}
 use Rattle.perm_tree.specs.declared.ast.Method.{Method}
 use Rattle.perm_tree.specs.declared.tokens.Token.{Token}
-use Rattle.perm_tree.proofs.Pushes.{all_more}
+use Rattle.perm_tree.proofs.Pushes.{all_more, all_append}
 use Rattle.perm_parse.specs.Grammar.{MemberTree, Members, Classes}
-use Rattle.perm_parse.specs.Meaning.{numbered, ident, type_of, member_of, members_of, classes_of, meaning, nothing_yet}
+use Rattle.perm_parse.specs.Meaning.{number_at, ident, type_of, member_of, members_of, classes_of, meaning, nothing_yet}
 use Rattle.perm_parse.proofs.Walks.ListGrowth.{front-length, Grows, ident-grows, member-grows, members-grows}
-use Rattle.perm_parse.proofs.Walks.{IsKept, ident-kept, members-kept}
+use Rattle.perm_parse.proofs.Walks.{ident-kept, members-kept}
+use Rattle.perm_parse.proofs.Walks.UnchangedClasses.{SameClasses, same-classes}
 
 -- ---- numbers in range
 
@@ -28,22 +29,17 @@ class_number c = c.name.name
 more-names : (s t : Listing) → Grows s t → names_in s ≤ names_in t
 more-names s t g = front-length s.names t.names g.names
 
--- the numbers of two lists, one behind the other
-pub below-both : (n : ℕ) (xs ys : List ℕ) → AllBelow n xs → AllBelow n ys → AllBelow n (xs ++ ys)
-below-both n [] ys b c = c
-below-both n (x ∷ xs) ys b c = (b.0, below-both n xs ys b.1 c)
-
--- the same of what has the numbers, where the first list was in range of fewer names
+-- what has the numbers of two lists, one behind the other, where the first list was in range of fewer names
 below-behind : {A : Type 0} (number : A → ℕ) (n m : ℕ) (xs ys : List A) → n ≤ m → AllBelow n (map number xs) → AllBelow m (map number ys) → AllBelow m (map number (xs ++ ys))
-below-behind number n m xs ys le b c = rw (map-append number xs ys) (below-both m (map number xs) (map number ys) (all_more n m (map number xs) le b) c)
+below-behind number n m xs ys le b c = rw (map-append number xs ys) (all_append m (map number xs) (map number ys) (all_more n m (map number xs) le b) c)
 
 -- the number of a name is the place of one of the names: of an earlier one or of the last
-numbered-below : (name : List ℕ) (s : Listing) (o : Option ℕ) → position (λ other. bytes_eq other name) s.names ≡ o → (numbered name s o).0 < names_in (numbered name s o).1
-numbered-below name s (Some at) e = (position-Some (λ other. bytes_eq other name) s.names at [] e).0
-numbered-below name s None e = omega (arith, length-append s.names (name ∷ []))
+number_at-below : (name : List ℕ) (s : Listing) (o : Option ℕ) → position (λ other. bytes_eq other name) s.names ≡ o → (number_at name s o).0 < names_in (number_at name s o).1
+number_at-below name s (Some at) e = (position-Some (λ other. bytes_eq other name) s.names at [] e).0
+number_at-below name s None e = omega (arith, length-append s.names (name ∷ []))
 
 pub ident-below : (text : List ℕ) (t : Token) (s : Listing) → (ident text t s).0.name < names_in (ident text t s).1
-ident-below text t s = numbered-below _ s _ refl
+ident-below text t s = number_at-below _ s _ refl
 
 -- ---- fields
 
@@ -65,24 +61,6 @@ members-fields text (Members.more_members list x) s =
 
 -- ---- classes
 
-abbrev SameClasses : Listing → Listing → Type 0
-SameClasses s t = t.classes ≡ s.classes
-
--- no class comes inside a class
-same : IsKept SameClasses
-same = record {
-  stays = λ s. refl;
-  then = λ {s} {t} {u} f g. g ∙ f;
-  name = λ text t s. numbered-same _ s _;
-  expr = λ e s. refl;
-  stmt = λ x s. refl;
-  mention = λ i s. refl;
-}
-  where
-    numbered-same : (name : List ℕ) (s : Listing) (o : Option ℕ) → SameClasses s (numbered name s o).1
-    numbered-same name s (Some at) = refl
-    numbered-same name s None = refl
-
 -- the numbers of the names of classes and of their fields are below a bound
 abbrev HaveNames : ℕ → List ClassDecl → Type 0
 HaveNames n cs = AllBelow n (map class_number cs) × AllBelow n (map field_number (flat_map (λ (c : ClassDecl). c.fields) cs))
@@ -101,7 +79,7 @@ classes-names text (Classes.more_classes list word name opening members closing)
     let x = ident text name front in
     let r = members_of text members x.1 in
     let class : ClassDecl = record { name = x.0; fields = r.0; methods = r.1 } in
-    let kept : r.2.classes ≡ front.classes = members-kept SameClasses same text members x.1 ∙ ident-kept SameClasses same text name front in
+    let kept : r.2.classes ≡ front.classes = members-kept SameClasses same-classes text members x.1 ∙ ident-kept SameClasses same-classes text name front in
     let begun = more-names front x.1 (ident-grows text name front) in
     let ended = more-names x.1 r.2 (members-grows text members x.1) in
     let number = ident-below text name front in

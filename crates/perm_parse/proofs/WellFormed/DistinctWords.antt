@@ -8,7 +8,7 @@ use Rattle.std.proofs.lemmas.List.Sums.{fails_before_first}
 use Rattle.std.proofs.lemmas.Slice.Eq.{bytes_eq-Decides}
 use Rattle.perm_tree.specs.Places.{Listing}
 use Rattle.perm_parse.specs.Grammar.{Classes}
-use Rattle.perm_parse.specs.Meaning.{numbered, meaning, nothing_yet}
+use Rattle.perm_parse.specs.Meaning.{number_at, meaning, nothing_yet}
 use Rattle.perm_parse.proofs.Walks.{IsKept, classes-kept}
 
 abbrev AreDistinct : List (List ℕ) → Type 0
@@ -23,16 +23,16 @@ none-passes : {X : Type 0} (p : X → Bool) (xs : List X) (k : ℕ) (d : X) → 
 none-passes p xs k d none lt = let at : k < position_or_len p xs = grind (arith, nat_tests) in fails_before_first p xs k d at
 
 -- a name that has no number so far is none of the names
-numbered-distinct : (name : List ℕ) (s : Listing) (o : Option ℕ) → position (λ other. bytes_eq other name) s.names ≡ o → StayDistinct s (numbered name s o).1
-numbered-distinct name s (Some at) e h = h
-numbered-distinct name s None e h = all_pairs_push (λ v w. v ≢ w) s.names name h (λ k d lt.
+number_at-distinct : (name : List ℕ) (s : Listing) (o : Option ℕ) → position (λ other. bytes_eq other name) s.names ≡ o → StayDistinct s (number_at name s o).1
+number_at-distinct name s (Some at) e h = h
+number_at-distinct name s None e h = all_pairs_push (λ v w. v ≢ w) s.names name h (λ k d lt.
     not_from_Decides (bytes_eq (get_or s.names k d) name) (bytes_eq-Decides (get_or s.names k d) name) (none-passes (λ other. bytes_eq other name) s.names k d e lt))
 
 distinct : IsKept StayDistinct
 distinct = record {
   stays = λ s h. h;
   then = λ {s} {t} {u} f g h. g (f h);
-  name = λ text t s. numbered-distinct _ s _ refl;
+  name = λ text t s. number_at-distinct _ s _ refl;
   expr = λ e s h. h;
   stmt = λ x s h. h;
   mention = λ i s h. h;

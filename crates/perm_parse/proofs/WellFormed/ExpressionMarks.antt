@@ -16,8 +16,9 @@ use Rattle.perm_tree.specs.declared.tokens.Token.{Token}
 use Rattle.perm_tree.specs.declared.tokens.TokenKind.{TokenKind}
 use Rattle.perm_tree.specs.declared.tokens.TokenKind.TheVariants as kinds
 use Rattle.perm_tree.proofs.Entries.{length-entries_of, entries_from-append, entries_of-front}
+use Rattle.perm_tree.proofs.Passing.{rising-less}
 use Rattle.perm_parse.specs.Grammar.{TypeTree, ExprTree, ArgTree, ArgList, Args, RecvTree, CallTree, type_text, expr_text, arg_text, arg_list_text, args_text, recv_text, call_text}
-use Rattle.perm_parse.specs.Meaning.{numbered, ident, var_as, var, push_expr, expr_of, arg_of, arg_list_of, args_of, recv_of, call_of}
+use Rattle.perm_parse.specs.Meaning.{number_at, ident, var_as, var, push_expr, expr_of, arg_of, arg_list_of, args_of, recv_of, call_of}
 use Rattle.perm_parse.proofs.Walks.ListGrowth.{Front, front-refl, front-trans, front-length, Grows, ident-grows, expr-grows, arg-grows, args-grows}
 
 -- ---- tokens in order
@@ -46,11 +47,6 @@ in-order ts some pairs = order-below 0 ts (λ k d within. omega arith) some pair
 -- ---- marks and tokens side by side
 
 -- what rises from a place rises from each one before it
-pub rising-from : (from later : ℕ) (ms : List Mark) → from ≤ later → IsRising later ms → IsRising from ms
-rising-from from later [] le h = tt
-rising-from from later (names i ∷ ms) le h = (omega (arith, h.0), h.1)
-rising-from from later (ends at ∷ ms) le h = (omega (arith, h.0), h.1)
-
 pub order-from : (from later : ℕ) (us : List Token) → from ≤ later → AreInOrder later us → AreInOrder from us
 order-from from later [] le h = tt
 order-from from later (t ∷ us) le h = (omega (arith, h.0), h.1, h.2)
@@ -67,7 +63,7 @@ nothing {us} = record { rising = λ from h. tt; behind = λ from h. order-from 0
 -- a token with no mark
 pub skip : {n : ℕ} {t : Token} {vs us : List Token} {ms : List Mark} → Told n vs us ms → Told n vs (t ∷ us) ms
 skip {t} {ms} r = record {
-  rising = λ from h. rising-from from t.span.end ms (omega (arith, h.0, h.1)) (r.rising t.span.end h.2);
+  rising = λ from h. rising-less from t.span.end ms (omega (arith, h.0, h.1)) (r.rising t.span.end h.2);
   behind = λ from h. r.behind t.span.end h.2;
   numbered = r.numbered;
 }
@@ -77,7 +73,7 @@ named : {n : ℕ} {t : Token} {vs us : List Token} {ms : List Mark} (i : Ident) 
 named {t} {ms} i same below r =
     let start : i.span.start ≡ t.span.start = λ j. (same j).start in
     record {
-      rising = λ from h. (omega (arith, h.0, start), rising-from (suc i.span.start) t.span.end ms (omega (arith, h.1, start)) (r.rising t.span.end h.2));
+      rising = λ from h. (omega (arith, h.0, start), rising-less (suc i.span.start) t.span.end ms (omega (arith, h.1, start)) (r.rising t.span.end h.2));
       behind = λ from h. r.behind t.span.end h.2;
       numbered = (below, r.numbered);
     }
@@ -120,7 +116,7 @@ entry-pushed {A} make xs ys x d f =
 
 -- ---- names
 
-number-below : (name : List ℕ) (s : Listing) (o : Option ℕ) → position (λ other. bytes_eq other name) s.names ≡ o → (numbered name s o).0 < length (numbered name s o).1.names
+number-below : (name : List ℕ) (s : Listing) (o : Option ℕ) → position (λ other. bytes_eq other name) s.names ≡ o → (number_at name s o).0 < length (number_at name s o).1.names
 number-below name s (Some at) e = (position-Some (λ other. bytes_eq other name) s.names at [] e).0
 number-below name s None e = omega (arith, length-append s.names (name ∷ []))
 

@@ -13,12 +13,14 @@ use Rattle.perm_tree.specs.declared.ast.Method.{Method}
 use Rattle.perm_tree.specs.declared.ast.Perm.{Perm}
 use Rattle.perm_tree.specs.declared.ast.Stmt.{Stmt}
 use Rattle.perm_tree.specs.declared.tokens.Token.{Token}
+use Rattle.perm_tree.proofs.Pushes.{all_append}
+use Rattle.perm_tree.proofs.Passing.{rising-less}
 use Rattle.perm_parse.specs.Grammar.{TypeTree, ArgTree, TargetTree, RhsTree, BlockTree, StmtTree, Stmts, ParamList, Params, MemberTree, Members, Classes, target_text, rhs_text, block_text, stmt_text, stmts_text, type_text, param_list_text, params_text, member_text, members_text, program_text}
 use Rattle.perm_parse.specs.Meaning.{ident, var, span_over, type_of, expr_of, arg_of, target_of, head_last, block_last, rhs_of, block_of, stmt_of, stmts_of, push_stmt, param_list_of, params_of, method_of, member_of, members_of, classes_of, nothing_yet, meaning}
-use Rattle.perm_parse.proofs.WellFormed.DeclaredNames.{below-both}
 use Rattle.perm_parse.proofs.Walks.ListGrowth.{front-refl, front-length, Grows, then, push_stmt-grows, ident-grows, type-grows, expr-grows, arg-grows, rhs-grows, block-grows, stmt-grows, stmts-grows, params-grows, member-grows, members-grows, classes-grows}
-use Rattle.perm_parse.proofs.Walks.UnchangedClasses.{ident-keeps, members-keeps}
-use Rattle.perm_parse.proofs.WellFormed.ExpressionMarks.{AreInOrder, Told, rising-from, order-from, nothing, skip, ended, Under, before, entry-pushed, ident-told, var-told, type-told, expr-told, arg-told, call-told}
+use Rattle.perm_parse.proofs.Walks.{ident-kept, members-kept}
+use Rattle.perm_parse.proofs.Walks.UnchangedClasses.{SameClasses, same-classes}
+use Rattle.perm_parse.proofs.WellFormed.ExpressionMarks.{AreInOrder, Told, order-from, nothing, skip, ended, Under, before, entry-pushed, ident-told, var-told, type-told, expr-told, arg-told, call-told}
 
 -- ---- statements
 
@@ -147,19 +149,19 @@ params-told text (Params.params list) s u r = param_list-told text list s u r
 method-told : {n : ℕ} {xs : List Expr} {ys : List Stmt} (text : List ℕ) (ty : TypeTree) (name opening : Token) (list : Params) (closing : Token) (p : Perm) (perm start : Token) (b : Stmts)
     (word : Token) (a : ArgTree) (end finish : Token) (us : List Token) (s : Listing) →
     let head = method_of text ty name list s in
-    let x = stmts_of text b head.3 in
+    let x = stmts_of text b head.program in
     let y = arg_of text a x.1 in
     Under n xs ys y.1 → Told n us (member_text (MemberTree.method ty name opening list closing p perm start b word a end finish) us)
-    (method_marks xs ys (record { result = head.0; name = head.1; params = head.2; receiver = p; body = record { stmts = x.0 }; back = y.0; span = span_over word end }))
+    (method_marks xs ys (record { result = head.result; name = head.name; params = head.params; receiver = p; body = record { stmts = x.0 }; back = y.0; span = span_over word end }))
 method-told text ty name opening list closing p perm start b word a end finish us s u =
     let t = type_of text ty s in
     let i = ident text name t.1 in
     let head = method_of text ty name list s in
-    let x = stmts_of text b head.3 in
+    let x = stmts_of text b head.program in
     let k = before (arg-grows text a x.1) u in
-    let l = before (stmts-grows text b head.3) k in
+    let l = before (stmts-grows text b head.program) k in
     type-told ty (ident-told text name t.1 (before (params-grows text list i.1) l) (skip (params-told text list i.1 l
-    (skip (skip (skip (stmts-told text b head.3 k (skip (arg-told text a x.1 u (ended (skip nothing)))))))))))
+    (skip (skip (skip (stmts-told text b head.program k (skip (arg-told text a x.1 u (ended (skip nothing)))))))))))
 
 -- ---- members
 
@@ -181,13 +183,13 @@ join : {n : ℕ} {vs us ws : List Token} {mss kss : List (List Mark)} → AreTol
 join {n} {mss} {kss} q r = record {
   rising = λ from h. rising-append mss kss (q.rising from h) (r.rising 0 (q.behind from h));
   behind = λ from h. r.behind 0 (q.behind from h);
-  numbered = subst (AllBelow n) (sym (flat_map-append mark_names mss kss)) (below-both n (flat_map mark_names mss) (flat_map mark_names kss) q.numbered r.numbered);
+  numbered = subst (AllBelow n) (sym (flat_map-append mark_names mss kss)) (all_append n (flat_map mark_names mss) (flat_map mark_names kss) q.numbered r.numbered);
 }
 
 -- the marks of one method
 one : {n : ℕ} {vs us : List Token} {ms : List Mark} → Told n vs us ms → AreTold n vs us (ms ∷ [])
 one {n} {ms} r = record {
-  rising = λ from h. (rising-from 0 from ms (omega arith) (r.rising from h), tt);
+  rising = λ from h. (rising-less 0 from ms (omega arith) (r.rising from h), tt);
   behind = r.behind;
   numbered = subst (AllBelow n) (sym (append-nil (mark_names ms))) r.numbered;
 }
@@ -201,9 +203,9 @@ member-told : {n : ℕ} {xs : List Expr} {ys : List Stmt} {us ws : List Token} (
 member-told text (MemberTree.field_member ty name end) fs ds s u q = until q (type-told ty (skip (skip nothing)))
 member-told {n} {xs} {ys} {us} {ws} text (MemberTree.method ty name opening list closing p perm start b word a end finish) fs ds s u q =
     let head = method_of text ty name list s in
-    let x = stmts_of text b head.3 in
+    let x = stmts_of text b head.program in
     let y = arg_of text a x.1 in
-    let made : Method = record { result = head.0; name = head.1; params = head.2; receiver = p; body = record { stmts = x.0 }; back = y.0; span = span_over word end } in
+    let made : Method = record { result = head.result; name = head.name; params = head.params; receiver = p; body = record { stmts = x.0 }; back = y.0; span = span_over word end } in
     subst
     (AreTold n us ws)
     (sym (map-append (method_marks xs ys) ds (made ∷ [])))
@@ -238,7 +240,7 @@ program-told {n} {xs} {ys} text (Classes.more_classes list word name opening mem
     let inner = members_text members (closing ∷ us) in
     let v : Under n xs ys m.2 = record { some = u.some; names = u.names; exprs = u.exprs; stmts = u.stmts } in
     let w = before (then (ident-grows text name r) (members-grows text members x.1)) v in
-    let kept : m.2.classes ≡ r.classes = (members-keeps text members x.1).classes ∙ (ident-keeps text name r).classes in
+    let kept : m.2.classes ≡ r.classes = members-kept SameClasses same-classes text members x.1 ∙ ident-kept SameClasses same-classes text name r in
     let first : AreTold n inner (word ∷ name ∷ opening ∷ inner) [] = until no_methods (skip (skip (skip nothing))) in
     let more : AreTold n us (word ∷ name ∷ opening ∷ inner) (map f m.1) = until (join first (members-told text members x.1 (closing ∷ us) v)) (skip nothing) in
     subst

@@ -5,8 +5,8 @@ use Rattle.perm_tree.specs.declared.ast.Expr.{Expr}
 use Rattle.perm_tree.specs.declared.ast.Expr.TheVariants.{Number, Bool as Truth, Unary, Binary}
 use Rattle.perm_tree.specs.declared.ast.UnaryOp.TheVariants as unary
 use Rattle.perm_tree.specs.declared.ast.BinaryOp.TheVariants as op
-use Rattle.perm_tree.specs.Canonical.{all_written, written_at}
-use Rattle.perm_tree.specs.CanonicalText.{canonical}
+use Rattle.perm_tree.specs.Printer.Expressions.{expr_texts_of, expr_text_at}
+use Rattle.perm_tree.specs.Printer.Programs.{canonical}
 use Rattle.perm_tree.proofs.Builder.{listing_of}
 use Rattle.perm_tree.proofs.ParPrograms.{p3, p4, p9, p10, p11}
 use Rattle.perm_tree.proofs.Programs.{p1, p2, p5, p6, p7, p8, p12, p13, p14}
@@ -90,18 +90,18 @@ operands =
     ∷ Binary op.Or 14 16
     ∷ []
 
-pub left-written : (written_at (all_written [] operands) 10).text ≡ codes "(1 + 2) * (3 - (1 + 2)) / --1"
+pub left-written : (expr_text_at (expr_texts_of [] operands) 10).text ≡ codes "(1 + 2) * (3 - (1 + 2)) / --1"
 unfolding digits
 left-written = refl
 
-pub right-written : (written_at (all_written [] operands) 11).text ≡ codes "--1 % ((1 + 2) * (3 - (1 + 2)))"
+pub right-written : (expr_text_at (expr_texts_of [] operands) 11).text ≡ codes "--1 % ((1 + 2) * (3 - (1 + 2)))"
 unfolding digits
 right-written = refl
 
-pub unary-written : (written_at (all_written [] operands) 9).text ≡ codes "-((1 + 2) * (3 - (1 + 2)))"
+pub unary-written : (expr_text_at (expr_texts_of [] operands) 9).text ≡ codes "-((1 + 2) * (3 - (1 + 2)))"
 unfolding digits
 unary-written = refl
 
-pub tests-written : (written_at (all_written [] operands) 17).text ≡ codes "true || (!(1 + 2 - 3 < (1 + 2) * (3 - (1 + 2)) / --1) || true) && !(1 + 2 - 3 < (1 + 2) * (3 - (1 + 2)) / --1)"
+pub tests-written : (expr_text_at (expr_texts_of [] operands) 17).text ≡ codes "true || (!(1 + 2 - 3 < (1 + 2) * (3 - (1 + 2)) / --1) || true) && !(1 + 2 - 3 < (1 + 2) * (3 - (1 + 2)) / --1)"
 unfolding digits
 tests-written = refl

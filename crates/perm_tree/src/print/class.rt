@@ -1,8 +1,8 @@
 //! The members of a class, in the order of their names.
 
 ghost use Rattle.std.specs.Prelude.{◌≡◌, IfOk, map};
-ghost use Rattle.perm_tree.specs.CanonicalText.{sorted_by};
-ghost use Rattle.perm_tree.specs.Members.{form_of, form_start, forms};
+ghost use Rattle.perm_tree.specs.Printer.Programs.{sort_by};
+ghost use Rattle.perm_tree.specs.Printer.Members.{form_of, form_start, forms};
 
 use crate::ast::{ClassDecl, FieldDecl, Method};
 use crate::errors::NoMemory;
@@ -41,7 +41,7 @@ fn listed<'a>(alloc: Global, class: &'a ClassDecl) -> Result<Vec<Member<'a>>, No
 
 /// The members of a class in the order of the starts of their names.
 pub fn sorted<'a>(alloc: Global, class: &'a ClassDecl) -> Result<Vec<Member<'a>>, NoMemory>
-    ensures { IfOk result (λ ms. map form_of ms.items ≡ sorted_by form_start (forms class.now)) }
+    ensures { IfOk result (λ ms. map form_of ms.items ≡ sort_by form_start (forms class.now)) }
 {
     let mut members = listed(alloc, class)?;
     members.sort_by_key(|member| start(member))?;

@@ -2,7 +2,7 @@
 
 ghost use Rattle.std.specs.Prelude.{◌≡◌, ◌+◌, ◌<◌, ◌^◌, length, OnOk};
 ghost use Rattle.perm_tree.specs.Places.{ExprBelow};
-ghost use Rattle.perm_tree.specs.Printing.{onto, else_tasks, expr_tasks, field_tasks, looseness_at, method_tasks, operand_tasks, recover_tasks, rhs_tasks, stmt_tasks};
+ghost use Rattle.perm_tree.specs.Printer.Parts.{onto, else_tasks, expr_tasks, field_tasks, looseness_at, method_tasks, operand_tasks, recover_tasks, rhs_tasks, stmt_tasks};
 ghost use Rattle.perm_tree.specs.declared.ast.Expr.TheVariants as node;
 ghost use Rattle.perm_tree.specs.declared.ast.Rhs.TheVariants as right;
 ghost use Rattle.perm_tree.specs.declared.ast.StmtKind.TheVariants as form;

@@ -1,8 +1,8 @@
 //! The parts of a canonical text.
 
 ghost use Rattle.std.specs.Prelude.{◌≡◌};
-ghost use Rattle.perm_tree.specs.Canonical.{level, operator_text, perm_text, sign_text};
-ghost use Rattle.perm_tree.specs.Printing.{word_text};
+ghost use Rattle.perm_tree.specs.Printer.Expressions.{level, operator_text, perm_text, sign_text};
+ghost use Rattle.perm_tree.specs.Printer.Parts.{word_text};
 
 use crate::ast::{Arg, BinaryOp, Ident, Perm, Ty, UnaryOp};
 

@@ -1,7 +1,7 @@
 //! The stack of the parts that are still to be written, the next one last. So the parts of a form are pushed from its end.
 
 ghost use Rattle.std.specs.Prelude.{◌≡◌, [], ◌∷◌, OnOk};
-ghost use Rattle.perm_tree.specs.Printing.{onto, args_tasks, block_tasks, call_tasks, more_args_tasks, more_params_tasks, params_tasks};
+ghost use Rattle.perm_tree.specs.Printer.Parts.{onto, args_tasks, block_tasks, call_tasks, more_args_tasks, more_params_tasks, params_tasks};
 
 use crate::ast::{Arg, Block, Call, FieldDecl};
 use crate::errors::NoMemory;

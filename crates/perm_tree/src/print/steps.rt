@@ -2,7 +2,7 @@
 
 ghost use Rattle.std.specs.Prelude.{◌≡◌, ◌++◌, [], OnOk};
 ghost use Rattle.perm_tree.specs.declared.print.part.Part.TheVariants as piece;
-ghost use Rattle.perm_tree.specs.Pending.{AreParts, IsPart, Steps, rest_text};
+ghost use Rattle.perm_tree.specs.Printer.PendingParts.{AreParts, IsPart, Steps, rest_text};
 
 use crate::ast::Arg;
 use crate::errors::NoMemory;

@@ -2,9 +2,9 @@
 
 ghost use Rattle.std.specs.Prelude.{◌≡◌, ◌++◌, OnOk};
 ghost use Rattle.std.specs.Fmt.{signed_decimal};
-ghost use Rattle.perm_tree.specs.Canonical.{type_text, word};
-ghost use Rattle.perm_tree.specs.CanonicalText.{declared_text, indent, name_text, receiver_text, target_text};
-ghost use Rattle.perm_tree.specs.Pending.{shape_word};
+ghost use Rattle.perm_tree.specs.Printer.Expressions.{type_text, word};
+ghost use Rattle.perm_tree.specs.Printer.Programs.{declared_text, indent, name_text, receiver_text, target_text};
+ghost use Rattle.perm_tree.specs.Printer.PendingParts.{shape_word};
 
 use crate::ast::{Ident, Shape, Ty};
 use crate::errors::NoMemory;

@@ -1,6 +1,6 @@
 use Rattle.std.proofs.Common.{◌∙◌, ap, length, map}
-use Rattle.perm_tree.specs.Members.{form_of}
-use Rattle.perm_tree.proofs.PrintMembers.{members_placed, written_class}
+use Rattle.perm_tree.specs.Printer.Members.{form_of}
+use Rattle.perm_tree.proofs.Printer.Members.{members_placed, written_class}
 use Rattle.perm_tree.proofs.print.write_class.Goals as goal
 
 pub write_members-requires : goal.write_members-requires

@@ -1,5 +1,5 @@
-use Rattle.perm_tree.specs.Members.{form_of}
-use Rattle.perm_tree.proofs.PrintMembers.{pushed_fits, written_form}
+use Rattle.perm_tree.specs.Printer.Members.{form_of}
+use Rattle.perm_tree.proofs.Printer.Members.{pushed_fits, written_form}
 use Rattle.perm_tree.proofs.print.write_member.Goals as goal
 
 pub write_all-requires : goal.write_all-requires

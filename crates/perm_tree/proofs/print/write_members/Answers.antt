@@ -1,7 +1,7 @@
 use Rattle.std.proofs.Common.{length, sym, subst, arith}
 use Rattle.perm_tree.specs.declared.print.class.Member.{Member}
-use Rattle.perm_tree.specs.Members.{IsFormPlaced, form_of}
-use Rattle.perm_tree.proofs.PrintMembers.{one_more, one_placed}
+use Rattle.perm_tree.specs.Printer.Members.{IsFormPlaced, form_of}
+use Rattle.perm_tree.proofs.Printer.Members.{one_more, one_placed}
 use Rattle.perm_tree.proofs.print.write_members.Goals as goal
 
 pub write_member-requires-clause-placed : goal.write_member-requires-clause-placed

@@ -1,6 +1,6 @@
 use Rattle.std.proofs.Common.{◌≡◌, ◌++◌, [], map}
 use Rattle.std.specs.Prelude.{take}
-use Rattle.perm_tree.specs.Members.{form_of, forms_text}
+use Rattle.perm_tree.specs.Printer.Members.{form_of, forms_text}
 use Rattle.perm_tree.proofs.print.write_members.Given as goal
 
 abbrev pub invariant-loop-member : goal.invariant-loop-member

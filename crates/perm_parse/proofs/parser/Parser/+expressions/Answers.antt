@@ -4,7 +4,7 @@ use Rattle.std.proofs.lemmas.Int.{to_z_pos}
 use Rattle.std.proofs.Common.{w64, pos}
 use Rattle.std.specs.Int.{cast_signed, cast_unsigned}
 use Rattle.perm_parse.specs.Meaning.{push_expr}
-use Rattle.perm_parse.specs.Reading.{Opened}
+use Rattle.perm_parse.specs.Reading.{OpensLevel}
 use Rattle.perm_tree.specs.declared.tokens.TokenKind.TheVariants as kind
 use Rattle.perm_tree.specs.declared.ast.Expr.TheVariants as node
 use Rattle.perm_parse.specs.Grammar.{ExprTree}
@@ -64,19 +64,19 @@ parens-returns-clause-reads m c =
 pub prefixed-returns-in_err-open-clause-reads : goal.prefixed-returns-in_err-open-clause-reads
 prefixed-returns-in_err-open-clause-reads m c =
     let p = err_from_is_err_and c.from_residual.result c.from_residual.ensures.1 in
-    let opened = subst (λ x. Opened x c.args.depth c.args.self.now c.open.new.self (Err c.in_err-open.field-0.0)) c.unary_sign.ensures c.in_err-open.ensures.opened in
+    let opened = subst (λ x. OpensLevel x c.args.depth c.args.self.now c.open.new.self (Err c.in_err-open.field-0.0)) c.unary_sign.ensures c.in_err-open.ensures.opened in
     rw (p.1, p.2) (prefixed-refused c.args.self.now c.open.new.self c.args.depth c.args.op c.in_err-open.field-0.0 c.requires.next opened)
 
 pub prefixed-returns-in_err-operand-clause-reads : goal.prefixed-returns-in_err-operand-clause-reads
 prefixed-returns-in_err-operand-clause-reads m c =
     let r = c.from_residual-in_err-operand in
     let p = err_from_is_err_and r.result r.ensures.1 in
-    let opened = subst (λ x. Opened x c.args.depth c.args.self.now c.open.new.self (Ok c.in_ok-open.field-0)) c.unary_sign.ensures c.in_ok-open.ensures.opened in
+    let opened = subst (λ x. OpensLevel x c.args.depth c.args.self.now c.open.new.self (Ok c.in_ok-open.field-0)) c.unary_sign.ensures c.in_ok-open.ensures.opened in
     rw (p.1, p.2) (prefixed-err c.args.self.now c.open.new.self c.unary.new.self c.args.depth c.args.op c.in_ok-open.field-0 c.in_err-operand.field-0.0 opened c.in_err-operand.ensures.reads)
 
 pub prefixed-returns-clause-reads : goal.prefixed-returns-clause-reads
 prefixed-returns-clause-reads m c =
-    let opened = subst (λ x. Opened x c.args.depth c.args.self.now c.open.new.self (Ok c.in_ok-open.field-0)) c.unary_sign.ensures c.in_ok-open.ensures.opened in
+    let opened = subst (λ x. OpensLevel x c.args.depth c.args.self.now c.open.new.self (Ok c.in_ok-open.field-0)) c.unary_sign.ensures c.in_ok-open.ensures.opened in
     prefixed-ok c.args.self.now c.open.new.self c.unary.new.self c.add_expr.new.self c.args.depth c.args.op c.in_ok-open.field-0 c.in_ok-operand.operand c.add_expr.result opened c.in_ok-operand.ensures.reads c.add_expr.ensures.pushed
 
 -- ---- unary

@@ -1,18 +1,19 @@
 use Rattle.std.proofs.Common.{◌+◌, ◌<◌, length, ◌-◌, ◌*◌, Ok}
 use Rattle.perm_parse.specs.Reading.{ReadsExpr, IsClosed, Onward}
+use Rattle.perm_parse.specs.Parses.{deepest}
 use Rattle.perm_parse.proofs.parser.Parser.+expressions.Given as goal
 
 abbrev pub decreases-binary : goal.decreases-binary
-decreases-binary l = (101 - l.depth) * 16 + (l.loosest + 3)
+decreases-binary l = (deepest + 1 - l.depth) * 16 + (l.loosest + 3)
 
 abbrev pub decreases-unary : goal.decreases-unary
-decreases-unary l = (101 - l.depth) * 16 + 2
+decreases-unary l = (deepest + 1 - l.depth) * 16 + 2
 
 abbrev pub decreases-prefixed : goal.decreases-prefixed
-decreases-prefixed l = (101 - l.depth) * 16 + 1
+decreases-prefixed l = (deepest + 1 - l.depth) * 16 + 1
 
 abbrev pub decreases-parens : goal.decreases-parens
-decreases-parens l = (101 - l.depth) * 16 + 1
+decreases-parens l = (deepest + 1 - l.depth) * 16 + 1
 
 abbrev pub invariant-binary-operators : goal.invariant-binary-operators
 invariant-binary-operators l = record {

@@ -1,6 +1,6 @@
 use Rattle.std.proofs.Common.{◌≡◌, ◌++◌, map}
 use Rattle.std.specs.Prelude.{take}
-use Rattle.perm_tree.specs.Members.{form_of, one_field, one_method}
+use Rattle.perm_tree.specs.Printer.Members.{form_of, one_field, one_method}
 use Rattle.perm_tree.proofs.print.class.listed.Given as goal
 
 abbrev pub invariant-loop-field : goal.invariant-loop-field

@@ -1,6 +1,6 @@
 use Rattle.std.proofs.Common.{[], ◌∷◌}
 use Rattle.perm_tree.specs.declared.print.part.Part.TheVariants.{Operator}
-use Rattle.perm_tree.proofs.PrintStacks.{pushed, pushed_last}
+use Rattle.perm_tree.proofs.Printer.Stacks.{pushed, pushed_last}
 use Rattle.perm_tree.proofs.print.forms.push_binary.Goals as goal
 
 pub returns : goal.returns

@@ -2,8 +2,8 @@ use Rattle.std.proofs.Common.{◌≡◌, sym, subst, [], ◌∷◌}
 use Rattle.std.specs.Prelude.{OnOk}
 use Rattle.perm_tree.specs.declared.print.part.Part.TheVariants.{Word as Fixed, Indent}
 use Rattle.perm_tree.specs.declared.print.part.Word.TheVariants as fixed
-use Rattle.perm_tree.specs.Printing.{onto, else_tasks}
-use Rattle.perm_tree.proofs.PrintStacks.{pushed, pushed_last}
+use Rattle.perm_tree.specs.Printer.Parts.{onto, else_tasks}
+use Rattle.perm_tree.proofs.Printer.Stacks.{pushed, pushed_last}
 use Rattle.perm_tree.proofs.print.forms.push_else.Goals as goal
 
 pub returns-in_ok-push_block-in-Some : goal.returns-in_ok-push_block-in-Some

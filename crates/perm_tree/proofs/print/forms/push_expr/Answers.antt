@@ -1,8 +1,8 @@
 use Rattle.std.proofs.Common.{◌≡◌, sym, subst, [], ◌∷◌}
 use Rattle.std.specs.Prelude.{OnOk}
 use Rattle.perm_tree.specs.declared.print.part.Part.TheVariants.{Sign}
-use Rattle.perm_tree.specs.Printing.{onto, expr_tasks}
-use Rattle.perm_tree.proofs.PrintStacks.{pushed_last}
+use Rattle.perm_tree.specs.Printer.Parts.{onto, expr_tasks}
+use Rattle.perm_tree.proofs.Printer.Stacks.{pushed_last}
 use Rattle.perm_tree.proofs.print.forms.push_expr.Goals as goal
 
 pub returns-in_ok-push_operand-in-Unary : goal.returns-in_ok-push_operand-in-Unary

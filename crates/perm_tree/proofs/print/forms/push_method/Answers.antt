@@ -1,8 +1,8 @@
 use Rattle.std.proofs.Common.{◌≡◌, ◌∙◌, ap, [], ◌∷◌}
 use Rattle.perm_tree.specs.declared.print.part.Part.TheVariants.{Word as Fixed, Indent, Perm, Declared}
 use Rattle.perm_tree.specs.declared.print.part.Word.TheVariants as fixed
-use Rattle.perm_tree.specs.Printing.{onto, params_tasks}
-use Rattle.perm_tree.proofs.PrintStacks.{pushed, pushed_last}
+use Rattle.perm_tree.specs.Printer.Parts.{onto, params_tasks}
+use Rattle.perm_tree.proofs.Printer.Stacks.{pushed, pushed_last}
 use Rattle.perm_tree.proofs.print.forms.push_method.Goals as goal
 
 pub returns : goal.returns

@@ -1,7 +1,7 @@
 use Rattle.std.proofs.Common.{[], ◌∷◌}
 use Rattle.perm_tree.specs.declared.print.part.Part.TheVariants.{Word as Fixed, Indent}
 use Rattle.perm_tree.specs.declared.print.part.Word.TheVariants as fixed
-use Rattle.perm_tree.proofs.PrintStacks.{pushed, pushed_last}
+use Rattle.perm_tree.proofs.Printer.Stacks.{pushed, pushed_last}
 use Rattle.perm_tree.proofs.print.forms.push_par.Goals as goal
 
 pub returns : goal.returns

@@ -1,7 +1,7 @@
 use Rattle.std.proofs.Common.{◌≡◌, sym, subst}
 use Rattle.std.specs.Prelude.{OnOk}
-use Rattle.perm_tree.specs.Printing.{onto, rhs_tasks}
-use Rattle.perm_tree.proofs.PrintStacks.{pushed_last}
+use Rattle.perm_tree.specs.Printer.Parts.{onto, rhs_tasks}
+use Rattle.perm_tree.proofs.Printer.Stacks.{pushed_last}
 use Rattle.perm_tree.proofs.print.forms.push_rhs.Goals as goal
 
 pub returns-in_ok-push-in-Call : goal.returns-in_ok-push-in-Call

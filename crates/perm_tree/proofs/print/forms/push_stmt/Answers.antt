@@ -2,8 +2,8 @@ use Rattle.std.proofs.Common.{◌≡◌, sym, subst, [], ◌∷◌}
 use Rattle.std.specs.Prelude.{OnOk}
 use Rattle.perm_tree.specs.declared.print.part.Part.TheVariants.{Word as Fixed, Indent, Target}
 use Rattle.perm_tree.specs.declared.print.part.Word.TheVariants as fixed
-use Rattle.perm_tree.specs.Printing.{onto, stmt_tasks}
-use Rattle.perm_tree.proofs.PrintStacks.{pushed, pushed_last}
+use Rattle.perm_tree.specs.Printer.Parts.{onto, stmt_tasks}
+use Rattle.perm_tree.proofs.Printer.Stacks.{pushed, pushed_last}
 use Rattle.perm_tree.proofs.print.forms.push_stmt.Goals as goal
 
 pub returns-in_ok-push_rhs-in-Assign : goal.returns-in_ok-push_rhs-in-Assign

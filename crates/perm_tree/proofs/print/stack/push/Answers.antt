@@ -1,5 +1,5 @@
 use Rattle.std.proofs.Common.{rules}
-use Rattle.perm_tree.specs.Printing.{onto}
+use Rattle.perm_tree.specs.Printer.Parts.{onto}
 use Rattle.perm_tree.proofs.print.stack.push.Goals as goal
 
 pub returns : goal.returns

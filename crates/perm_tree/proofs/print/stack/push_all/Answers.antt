@@ -1,7 +1,7 @@
 use Rattle.std.proofs.Common.{rules}
 use Rattle.std.proofs.lemmas.Iterator.Adapters.{items_from_extend, YieldsList-from_rev_slice}
 use Rattle.std.proofs.lemmas.Iterator.Consumers.{YieldsList-from_copied}
-use Rattle.perm_tree.specs.Printing.{onto}
+use Rattle.perm_tree.specs.Printer.Parts.{onto}
 use Rattle.perm_tree.proofs.print.stack.push_all.Goals as goal
 
 pub returns : goal.returns

@@ -1,8 +1,8 @@
 use Rattle.std.proofs.Common.{rules, ◌≡◌, ◌∙◌, ap, sym, [], ◌∷◌, subst}
 use Rattle.std.specs.Prelude.{OnOk}
 use Rattle.perm_tree.specs.declared.print.part.Part.TheVariants.{Arg as Argument}
-use Rattle.perm_tree.specs.Printing.{onto, args_tasks, more_args_tasks}
-use Rattle.perm_tree.proofs.PrintStacks.{empty, onto-nil, pushed_last}
+use Rattle.perm_tree.specs.Printer.Parts.{onto, args_tasks, more_args_tasks}
+use Rattle.perm_tree.proofs.Printer.Stacks.{empty, onto-nil, pushed_last}
 use Rattle.perm_tree.proofs.print.stack.push_args.Goals as goal
 
 pub returns-in_default : goal.returns-in_default

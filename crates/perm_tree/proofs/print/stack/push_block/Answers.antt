@@ -4,8 +4,8 @@ use Rattle.std.proofs.lemmas.Iterator.{YieldsList-from_map}
 use Rattle.std.proofs.lemmas.Iterator.Adapters.{items_from_extend, YieldsList-from_rev_slice}
 use Rattle.perm_tree.specs.declared.print.part.Part.{Part}
 use Rattle.perm_tree.specs.declared.print.part.Part.TheVariants.{Stmt as Statement}
-use Rattle.perm_tree.specs.Printing.{onto}
-use Rattle.perm_tree.proofs.PrintStacks.{map-reverse, when_ok}
+use Rattle.perm_tree.specs.Printer.Parts.{onto}
+use Rattle.perm_tree.proofs.Printer.Stacks.{map-reverse, when_ok}
 use Rattle.perm_tree.proofs.print.stack.push_block.Goals as goal
 
 pub returns : goal.returns

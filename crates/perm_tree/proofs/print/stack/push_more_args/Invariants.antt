@@ -1,5 +1,5 @@
 use Rattle.std.proofs.Common.{◌≡◌, length}
-use Rattle.perm_tree.specs.Printing.{onto, more_args_tasks}
+use Rattle.perm_tree.specs.Printer.Parts.{onto, more_args_tasks}
 use Rattle.perm_tree.proofs.print.stack.push_more_args.Given as goal
 
 abbrev pub invariant-loop-last : goal.invariant-loop-last

@@ -1,8 +1,8 @@
 use Rattle.std.proofs.Common.{rules, ◌≡◌, [], ◌∷◌, ◌++◌, length}
 use Rattle.perm_tree.specs.declared.print.part.Part.TheVariants.{Word as Fixed, Declared}
 use Rattle.perm_tree.specs.declared.print.part.Word.TheVariants as fixed
-use Rattle.perm_tree.specs.Printing.{more_params_tasks}
-use Rattle.perm_tree.proofs.PrintStacks.{before_last, none_left}
+use Rattle.perm_tree.specs.Printer.Parts.{more_params_tasks}
+use Rattle.perm_tree.proofs.Printer.Stacks.{before_last, none_left}
 use Rattle.perm_tree.proofs.print.stack.push_more_params.Goals as goal
 
 pub loop-last-preserved : goal.loop-last-preserved

@@ -1,6 +1,6 @@
 use Rattle.std.proofs.Common.{arith, ◌≡◌, ◌∙◌, sym, refl, [], append-nil}
-use Rattle.perm_tree.proofs.PrintStacks.{empty}
-use Rattle.perm_tree.proofs.PrintSteps.{finished, lighter, popped, stepped}
+use Rattle.perm_tree.proofs.Printer.Stacks.{empty}
+use Rattle.perm_tree.proofs.Printer.Steps.{finished, lighter, popped, stepped}
 use Rattle.perm_tree.proofs.print.steps.write_all.Goals as goal
 
 pub loop-part-init : goal.loop-part-init

@@ -1,4 +1,4 @@
-use Rattle.perm_tree.specs.Pending.{Remains, rest_work}
+use Rattle.perm_tree.specs.Printer.PendingParts.{Remains, rest_work}
 use Rattle.perm_tree.proofs.print.steps.write_all.Given as goal
 
 abbrev pub invariant-loop-part : goal.invariant-loop-part

@@ -1,6 +1,6 @@
 use Rattle.std.proofs.Common.{refl}
 use Rattle.std.specs.Prelude.{codes}
-use Rattle.perm_tree.proofs.PrintSteps.{arg-steps, consumed-steps}
+use Rattle.perm_tree.proofs.Printer.Steps.{arg-steps, consumed-steps}
 use Rattle.perm_tree.proofs.print.steps.write_arg.Goals as goal
 
 pub returns-in-Expr : goal.returns-in-Expr

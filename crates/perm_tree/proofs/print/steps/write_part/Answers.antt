@@ -4,9 +4,9 @@ use Rattle.std.specs.Prelude.{OnOk, pos}
 use Rattle.perm_tree.specs.declared.ast.Expr.TheVariants.{Number as Numeral}
 use Rattle.perm_tree.specs.declared.print.part.Part.TheVariants as piece
 use Rattle.perm_tree.specs.declared.ast.Stmt.{Stmt}
-use Rattle.perm_tree.specs.Pending.{IsPart, Steps}
-use Rattle.perm_tree.specs.Printing.{onto, stmt_tasks}
-use Rattle.perm_tree.proofs.PrintSteps.{expr-steps, leaf, operands_below, stmt-steps}
+use Rattle.perm_tree.specs.Printer.PendingParts.{IsPart, Steps}
+use Rattle.perm_tree.specs.Printer.Parts.{onto, stmt_tasks}
+use Rattle.perm_tree.proofs.Printer.Steps.{expr-steps, leaf, operands_below, stmt-steps}
 use Rattle.perm_tree.proofs.print.steps.write_part.Goals as goal
 
 pub returns-in-Word : goal.returns-in-Word

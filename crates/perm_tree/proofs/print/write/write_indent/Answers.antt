@@ -1,6 +1,6 @@
 use Rattle.std.proofs.Common.{◌∙◌, ap, sym, [], ◌∷◌, ◌++◌, append_assoc}
-use Rattle.perm_tree.specs.CanonicalText.{indent}
-use Rattle.perm_tree.proofs.PrintTexts.{indent-more}
+use Rattle.perm_tree.specs.Printer.Programs.{indent}
+use Rattle.perm_tree.proofs.Printer.Texts.{indent-more}
 use Rattle.perm_tree.proofs.print.write.write_indent.Goals as goal
 
 pub loop-preserved : goal.loop-preserved

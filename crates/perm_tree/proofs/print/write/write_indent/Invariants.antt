@@ -1,5 +1,5 @@
 use Rattle.std.proofs.Common.{◌≡◌, ◌++◌}
-use Rattle.perm_tree.specs.CanonicalText.{indent}
+use Rattle.perm_tree.specs.Printer.Programs.{indent}
 use Rattle.perm_tree.proofs.print.write.write_indent.Given as goal
 
 abbrev pub invariant-loop : goal.invariant-loop

@@ -8,11 +8,11 @@ use Rattle.perm_tree.specs.declared.ast.Shape.TheVariants.{Class, Array}
 use Rattle.perm_tree.specs.declared.ast.Expr.{Expr}
 use Rattle.perm_tree.specs.declared.ast.Stmt.{Stmt}
 use Rattle.perm_tree.specs.declared.ast.Arg.TheVariants.{Expr as Plain}
-use Rattle.perm_tree.specs.Canonical.{joined, word, perm_text, operator_text, sign_text}
-use Rattle.perm_tree.specs.CanonicalText.{Wording, wording, arg_text, declared_text, expr_text, indent, name_text, receiver_text, stmt_texts, target_text}
+use Rattle.perm_tree.specs.Printer.Expressions.{parts_text, word, perm_text, operator_text, sign_text}
+use Rattle.perm_tree.specs.Printer.Programs.{Wording, wording, arg_text, declared_text, expr_text, indent, name_text, receiver_text, stmt_texts, target_text}
 use Rattle.perm_tree.specs.Entries.{entries_of}
 use Rattle.perm_tree.specs.Places.{Listing}
-use Rattle.perm_tree.specs.Printing.{expr_tasks, stmt_tasks, word_text}
+use Rattle.perm_tree.specs.Printer.Parts.{expr_tasks, stmt_tasks, word_text}
 
 -- ---------- texts ----------
 -- what stands behind the permission of a reference
@@ -42,7 +42,7 @@ part_text p part = part_text_in (wording p) (stmt_texts p) part
 
 -- the text of a stack, of which the last part is the next one
 unfoldable pub rest_text : Listing → List Part → List ℕ
-rest_text p stack = joined (map (part_text p) (reverse stack))
+rest_text p stack = parts_text (map (part_text p) (reverse stack))
 
 -- ---------- places ----------
 -- the expression or statement of a part is among the first ones, and its indentation isn't deeper than there is room for

@@ -16,7 +16,7 @@ use Rattle.perm_tree.specs.declared.ast.Rhs.TheVariants as right
 use Rattle.perm_tree.specs.declared.ast.StmtKind.{StmtKind}
 use Rattle.perm_tree.specs.declared.ast.StmtKind.TheVariants as form
 use Rattle.perm_tree.specs.declared.ast.Method.{Method}
-use Rattle.perm_tree.specs.Canonical.{level}
+use Rattle.perm_tree.specs.Printer.Expressions.{level}
 
 -- the bytes of a fixed word
 abbrev pub word_text : Word → List ℕ

@@ -14,18 +14,18 @@ use Rattle.perm_tree.specs.declared.ast.StmtKind.{StmtKind}
 use Rattle.perm_tree.specs.declared.ast.StmtKind.TheVariants as form
 use Rattle.perm_tree.specs.declared.ast.Method.{Method}
 use Rattle.perm_tree.specs.declared.ast.ClassDecl.{ClassDecl}
-use Rattle.perm_tree.specs.Canonical.{joined, word, perm_text, type_text, Written, written_at, all_written}
+use Rattle.perm_tree.specs.Printer.Expressions.{parts_text, word, perm_text, type_text, ExprText, expr_text_at, expr_texts_of}
 use Rattle.perm_tree.specs.Entries.{entries_of}
 use Rattle.perm_tree.specs.Places.{Listing}
 
 -- what statements are written with: the words of the names, and all expressions written down
 pub record Wording : Type 0 where
   pub names : List (List ℕ)
-  pub written : List Written
+  pub expr_texts : List ExprText
 
 -- the wording of a program
 abbrev pub wording : Listing → Wording
-wording p = record { names = p.names; written = all_written p.names p.exprs }
+wording p = record { names = p.names; expr_texts = expr_texts_of p.names p.exprs }
 
 -- ---------- parts of a line ----------
 -- two spaces for each open brace
@@ -39,12 +39,12 @@ name_text names x = word names x.name
 
 -- a receiver, which may be consumed
 abbrev pub receiver_text : List (List ℕ) → Bool → Ident → List ℕ
-receiver_text names true y = joined (codes "(consume " ∷ name_text names y ∷ codes ")" ∷ [])
+receiver_text names true y = parts_text (codes "(consume " ∷ name_text names y ∷ codes ")" ∷ [])
 receiver_text names false y = name_text names y
 
 -- a type and a name
 abbrev pub declared_text : List (List ℕ) → Ty → Ident → List ℕ
-declared_text names t x = joined (type_text names t ∷ codes " " ∷ name_text names x ∷ [])
+declared_text names t x = parts_text (type_text names t ∷ codes " " ∷ name_text names x ∷ [])
 
 -- the left side of an assignment, which may declare its variable
 abbrev pub target_text : List (List ℕ) → Option Ty → Ident → List ℕ
@@ -53,12 +53,12 @@ target_text names (Some t) x = declared_text names t x
 
 -- the expression at a place
 abbrev pub expr_text : Wording → ℕ → List ℕ
-expr_text w e = (written_at w.written e).text
+expr_text w e = (expr_text_at w.expr_texts e).text
 
 -- a value that is handed over
 abbrev pub arg_text : Wording → Arg → List ℕ
 arg_text w (Plain e) = expr_text w e
-arg_text w (Consume y) = joined (codes "consume " ∷ name_text w.names y ∷ [])
+arg_text w (Consume y) = parts_text (codes "consume " ∷ name_text w.names y ∷ [])
 
 -- arguments behind another one
 abbrev pub more_args_parts : Wording → List Arg → List (List ℕ)
@@ -115,7 +115,7 @@ stmt_parts w texts depth (form.Par a b) =
 
 -- the text of a statement, for any indentation
 abbrev pub stmt_text : Wording → List (ℕ → List ℕ) → Stmt → ℕ → List ℕ
-stmt_text w texts s depth = joined (stmt_parts w texts depth s.kind)
+stmt_text w texts s depth = parts_text (stmt_parts w texts depth s.kind)
 
 -- the texts of all statements of a program
 abbrev pub stmt_texts : Listing → List (ℕ → List ℕ)
@@ -153,29 +153,29 @@ pub record Member : Type 0 where
 
 -- a field as a member
 abbrev pub field_member : Listing → FieldDecl → Member
-field_member p f = record { start = f.name.span.start; text = joined (field_parts p f) }
+field_member p f = record { start = f.name.span.start; text = parts_text (field_parts p f) }
 
 -- a method as a member
 abbrev pub method_member : Listing → Method → Member
-method_member p m = record { start = m.name.span.start; text = joined (method_parts p m) }
+method_member p m = record { start = m.name.span.start; text = parts_text (method_parts p m) }
 
 -- one element more, before the first one whose number isn't smaller
-abbrev pub inserted : {A : Type 0} → (A → ℕ) → A → List A → List A
-inserted number x [] = x ∷ []
-inserted number x (y ∷ ys) = if nat_le (number x) (number y) then x ∷ y ∷ ys else y ∷ inserted number x ys
+abbrev pub insert_by : {A : Type 0} → (A → ℕ) → A → List A → List A
+insert_by number x [] = x ∷ []
+insert_by number x (y ∷ ys) = if nat_le (number x) (number y) then x ∷ y ∷ ys else y ∷ insert_by number x ys
 
 -- the elements in the order of their numbers; those with the same number keep their order
-abbrev pub sorted_by : {A : Type 0} → (A → ℕ) → List A → List A
-sorted_by number [] = []
-sorted_by number (x ∷ xs) = inserted number x (sorted_by number xs)
+abbrev pub sort_by : {A : Type 0} → (A → ℕ) → List A → List A
+sort_by number [] = []
+sort_by number (x ∷ xs) = insert_by number x (sort_by number xs)
 
 -- the members of a class in the order of the starts of their names; where two start alike, fields come first and each list keeps its order
 abbrev pub members : Listing → ClassDecl → List Member
-members p c = sorted_by (λ m. m.start) (map (field_member p) c.fields ++ map (method_member p) c.methods)
+members p c = sort_by (λ m. m.start) (map (field_member p) c.fields ++ map (method_member p) c.methods)
 
 -- the lines of a class
 abbrev pub class_text : Listing → ClassDecl → List ℕ
-class_text p c = joined (codes "class " ∷ word p.names c.name.name ∷ codes " {\n" ∷ (map (λ m. m.text) (members p c) ++ codes "}\n" ∷ []))
+class_text p c = parts_text (codes "class " ∷ word p.names c.name.name ∷ codes " {\n" ∷ (map (λ m. m.text) (members p c) ++ codes "}\n" ∷ []))
 
 -- the canonical text of a program
 abbrev pub canonical : Listing → List ℕ

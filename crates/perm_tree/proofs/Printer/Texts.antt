@@ -17,28 +17,28 @@ use Rattle.perm_tree.specs.declared.print.part.Part.{Part}
 use Rattle.perm_tree.specs.declared.print.part.Part.TheVariants as piece
 use Rattle.perm_tree.specs.declared.print.part.Part.TheVariants.{Word as Fixed, Indent}
 use Rattle.perm_tree.specs.declared.print.part.Word.TheVariants as fixed
-use Rattle.perm_tree.specs.Canonical.{joined}
-use Rattle.perm_tree.specs.CanonicalText.{Wording, wording, args_parts, more_args_parts, arg_text, block_parts, call_parts, declared_text, else_parts, field_parts, indent, method_parts, more_params_parts, params_parts, rhs_parts, stmt_parts, stmt_texts}
-use Rattle.perm_tree.specs.Pending.{part_text, part_text_in, rest_text}
+use Rattle.perm_tree.specs.Printer.Expressions.{parts_text}
+use Rattle.perm_tree.specs.Printer.Programs.{Wording, wording, args_parts, more_args_parts, arg_text, block_parts, call_parts, declared_text, else_parts, field_parts, indent, method_parts, more_params_parts, params_parts, rhs_parts, stmt_parts, stmt_texts}
+use Rattle.perm_tree.specs.Printer.PendingParts.{part_text, part_text_in, rest_text}
 use Rattle.perm_tree.specs.Places.{Listing}
-use Rattle.perm_tree.specs.Printing.{onto, args_tasks, block_tasks, call_tasks, else_tasks, field_tasks, method_tasks, more_args_tasks, more_params_tasks, params_tasks, recover_tasks, rhs_tasks, stmt_tasks}
+use Rattle.perm_tree.specs.Printer.Parts.{onto, args_tasks, block_tasks, call_tasks, else_tasks, field_tasks, method_tasks, more_args_tasks, more_params_tasks, params_tasks, recover_tasks, rhs_tasks, stmt_tasks}
 
 -- ---------- texts of stacks ----------
-pub joined-append : (xs ys : List (List ℕ)) → joined (xs ++ ys) ≡ joined xs ++ joined ys
-joined-append [] ys = refl
-joined-append (x ∷ xs) ys = ap (λ l. x ++ l) (joined-append xs ys) ∙ sym (append_assoc x (joined xs) (joined ys))
+pub parts_text-append : (xs ys : List (List ℕ)) → parts_text (xs ++ ys) ≡ parts_text xs ++ parts_text ys
+parts_text-append [] ys = refl
+parts_text-append (x ∷ xs) ys = ap (λ l. x ++ l) (parts_text-append xs ys) ∙ sym (append_assoc x (parts_text xs) (parts_text ys))
 
 -- the text of parts that are pushed stands before the rest
-pub rest_text-onto : (p : Listing) (stack parts : List Part) → rest_text p (onto stack parts) ≡ joined (map (part_text p) parts) ++ rest_text p stack
+pub rest_text-onto : (p : Listing) (stack parts : List Part) → rest_text p (onto stack parts) ≡ parts_text (map (part_text p) parts) ++ rest_text p stack
 unfolding onto rest_text
 rest_text-onto p stack parts =
     let order : reverse (stack ++ reverse parts) ≡ parts ++ reverse stack = reverse-append stack (reverse parts) ∙ ap (λ l. l ++ reverse stack) (reverse-reverse parts) in
-    ap (λ l. joined (map (part_text p) l)) order ∙ ap joined (map-append (part_text p) parts (reverse stack)) ∙ joined-append (map (part_text p) parts) (map (part_text p) (reverse stack))
+    ap (λ l. parts_text (map (part_text p) l)) order ∙ ap parts_text (map-append (part_text p) parts (reverse stack)) ∙ parts_text-append (map (part_text p) parts) (map (part_text p) (reverse stack))
 
 -- the last part of a stack is the next one
 pub rest_text-last : (p : Listing) (stack : List Part) (part : Part) → rest_text p (stack ++ part ∷ []) ≡ part_text p part ++ rest_text p stack
 unfolding rest_text
-rest_text-last p stack part = ap (λ l. joined (map (part_text p) l)) (reverse-append stack (part ∷ []))
+rest_text-last p stack part = ap (λ l. parts_text (map (part_text p) l)) (reverse-append stack (part ∷ []))
 
 pub rest_text-none : (p : Listing) → rest_text p [] ≡ []
 unfolding rest_text

@@ -17,10 +17,10 @@ use Rattle.perm_tree.specs.declared.ast.StmtKind.TheVariants as form
 use Rattle.perm_tree.specs.declared.print.part.Part.{Part}
 use Rattle.perm_tree.specs.declared.print.part.Part.TheVariants.{Word as Fixed, Arg as Argument}
 use Rattle.perm_tree.specs.declared.print.part.Word.TheVariants as fixed
-use Rattle.perm_tree.specs.Canonical.{level}
-use Rattle.perm_tree.specs.Pending.{AllFit, Fits}
+use Rattle.perm_tree.specs.Printer.Expressions.{level}
+use Rattle.perm_tree.specs.Printer.PendingParts.{AllFit, Fits}
 use Rattle.perm_tree.specs.Places.{AllBelow, ArgPlaced, ArgsPlaced, ElseBelow, ExprBelow, KindPlaced, MethodPlaced, RhsPlaced}
-use Rattle.perm_tree.specs.Printing.{onto, args_tasks, block_tasks, call_tasks, else_tasks, expr_tasks, looseness_at, method_tasks, more_args_tasks, more_params_tasks, operand_tasks, params_tasks, rhs_tasks, stmt_tasks, truth_task}
+use Rattle.perm_tree.specs.Printer.Parts.{onto, args_tasks, block_tasks, call_tasks, else_tasks, expr_tasks, looseness_at, method_tasks, more_args_tasks, more_params_tasks, operand_tasks, params_tasks, rhs_tasks, stmt_tasks, truth_task}
 
 module _ (exprs stmts room : ℕ) where
   abbrev All : List Part → Type 0

@@ -6,10 +6,10 @@ use Rattle.perm_tree.specs.declared.print.part.Part.{Part}
 use Rattle.perm_tree.specs.declared.ast.ClassDecl.{ClassDecl}
 use Rattle.perm_tree.specs.declared.ast.FieldDecl.{FieldDecl}
 use Rattle.perm_tree.specs.declared.ast.Method.{Method}
-use Rattle.perm_tree.specs.CanonicalText as text
-use Rattle.perm_tree.specs.CanonicalText.{field_member, method_member}
+use Rattle.perm_tree.specs.Printer.Programs as text
+use Rattle.perm_tree.specs.Printer.Programs.{field_member, method_member}
 use Rattle.perm_tree.specs.Places.{Listing, MethodPlaced}
-use Rattle.perm_tree.specs.Printing.{field_tasks, method_tasks}
+use Rattle.perm_tree.specs.Printer.Parts.{field_tasks, method_tasks}
 
 -- a field or a method
 pub data Form : Type 0 where

@@ -6,16 +6,16 @@ use Rattle.perm_tree.specs.declared.ast.ClassDecl.{ClassDecl}
 use Rattle.perm_tree.specs.declared.ast.FieldDecl.{FieldDecl}
 use Rattle.perm_tree.specs.declared.ast.Method.{Method}
 use Rattle.perm_tree.specs.declared.print.part.Part.{Part}
-use Rattle.perm_tree.specs.Canonical.{joined}
-use Rattle.perm_tree.specs.CanonicalText as text
-use Rattle.perm_tree.specs.CanonicalText.{field_member, inserted, members, method_member, sorted_by}
-use Rattle.perm_tree.specs.Members.{AllFormsPlaced, Form, IsFormPlaced, form_member, form_start, form_tasks, forms, forms_text, one_field, one_method}
-use Rattle.perm_tree.specs.Pending.{AreParts, part_text, rest_text}
+use Rattle.perm_tree.specs.Printer.Expressions.{parts_text}
+use Rattle.perm_tree.specs.Printer.Programs as text
+use Rattle.perm_tree.specs.Printer.Programs.{field_member, insert_by, members, method_member, sort_by}
+use Rattle.perm_tree.specs.Printer.Members.{AllFormsPlaced, Form, IsFormPlaced, form_member, form_start, form_tasks, forms, forms_text, one_field, one_method}
+use Rattle.perm_tree.specs.Printer.PendingParts.{AreParts, part_text, rest_text}
 use Rattle.perm_tree.specs.Places.{ClassPlaced, Listing, MethodPlaced}
-use Rattle.perm_tree.specs.Printing.{onto}
-use Rattle.perm_tree.proofs.PrintFits.{fits-onto, method_fits}
-use Rattle.perm_tree.proofs.PrintTexts.{field-texts, method-texts, rest_text-none, rest_text-onto}
-use Rattle.perm_tree.proofs.StableSorts.{map-sorted_by}
+use Rattle.perm_tree.specs.Printer.Parts.{onto}
+use Rattle.perm_tree.proofs.Printer.Fits.{fits-onto, method_fits}
+use Rattle.perm_tree.proofs.Printer.Texts.{field-texts, method-texts, rest_text-none, rest_text-onto}
+use Rattle.perm_tree.proofs.Printer.StableSorts.{map-sorted_by}
 
 -- ---------- parts ----------
 form_fits : (p : Listing) (f : Form) → IsFormPlaced (length p.exprs) (length p.stmts) f → AreParts p (form_tasks f)
@@ -27,16 +27,16 @@ pushed_fits p f stack stack' none pushed_all placed =
     let fit = fits-onto (length p.exprs) (length p.stmts) (length p.stmts + 1) [] (form_tasks f) tt (form_fits p f placed) in
     subst (AreParts p) (sym (pushed_all ∙ ap (λ s. onto s (form_tasks f)) none)) fit
 
-form-text : (p : Listing) (f : Form) → joined (map (part_text p) (form_tasks f)) ≡ (form_member p f).text
-form-text p (one_field f) = ap joined (field-texts p f)
-form-text p (one_method m) = ap joined (method-texts p m)
+form-text : (p : Listing) (f : Form) → parts_text (map (part_text p) (form_tasks f)) ≡ (form_member p f).text
+form-text p (one_field f) = ap parts_text (field-texts p f)
+form-text p (one_method m) = ap parts_text (method-texts p m)
 
 pub written_form : {A E : Type 0} (r : Result A E) (p : Listing) (f : Form) (stack stack' : List Part) (t t' : List ℕ)
     → stack ≡ [] → stack' ≡ onto stack (form_tasks f) → OnOk r (t' ≡ t ++ rest_text p stack') → OnOk r (t' ≡ t ++ (form_member p f).text)
 written_form (Ok a) p f stack stack' t t' none pushed_all more =
-    let all : rest_text p stack' ≡ joined (map (part_text p) (form_tasks f)) ++ rest_text p [] = ap (rest_text p) (pushed_all ∙ ap (λ s. onto s (form_tasks f)) none) ∙ rest_text-onto p [] (form_tasks f) in
+    let all : rest_text p stack' ≡ parts_text (map (part_text p) (form_tasks f)) ++ rest_text p [] = ap (rest_text p) (pushed_all ∙ ap (λ s. onto s (form_tasks f)) none) ∙ rest_text-onto p [] (form_tasks f) in
     let whole : rest_text p stack' ≡ (form_member p f).text =
-    all ∙ ap (λ l. joined (map (part_text p) (form_tasks f)) ++ l) (rest_text-none p) ∙ append-nil (joined (map (part_text p) (form_tasks f))) ∙ form-text p f in
+    all ∙ ap (λ l. parts_text (map (part_text p) (form_tasks f)) ++ l) (rest_text-none p) ∙ append-nil (parts_text (map (part_text p) (form_tasks f))) ∙ form-text p f in
     more ∙ ap (λ l. t ++ l) whole
 written_form (Err e) p f stack stack' t t' none pushed_all more = tt
 
@@ -53,21 +53,21 @@ module _ (exprs stmts : ℕ) where
   methods_placed [] h = tt
   methods_placed (m ∷ ms) h = (h zero m refl, methods_placed ms (λ k d e. h (suc k) d e))
 
-  inserted_placed : (f : Form) (fs : List Form) → IsFormPlaced exprs stmts f → Placed fs → Placed (inserted form_start f fs)
-  inserted_placed f [] a b = (a, tt)
-  inserted_placed f (g ∷ gs) a b = go (nat_le (form_start f) (form_start g)) (inserted_placed f gs a b.1)
+  insert_by-placed : (f : Form) (fs : List Form) → IsFormPlaced exprs stmts f → Placed fs → Placed (insert_by form_start f fs)
+  insert_by-placed f [] a b = (a, tt)
+  insert_by-placed f (g ∷ gs) a b = go (nat_le (form_start f) (form_start g)) (insert_by-placed f gs a b.1)
     where
-      go : (t : Bool) → Placed (inserted form_start f gs) → Placed (if t then f ∷ g ∷ gs else g ∷ inserted form_start f gs)
+      go : (t : Bool) → Placed (insert_by form_start f gs) → Placed (if t then f ∷ g ∷ gs else g ∷ insert_by form_start f gs)
       go true rest = (a, b)
       go false rest = (b.0, rest)
 
-  sorted_placed : (fs : List Form) → Placed fs → Placed (sorted_by form_start fs)
-  sorted_placed [] a = tt
-  sorted_placed (f ∷ fs) a = inserted_placed f (sorted_by form_start fs) a.0 (sorted_placed fs a.1)
+  sort_by-placed : (fs : List Form) → Placed fs → Placed (sort_by form_start fs)
+  sort_by-placed [] a = tt
+  sort_by-placed (f ∷ fs) a = insert_by-placed f (sort_by form_start fs) a.0 (sort_by-placed fs a.1)
 
   -- the sorted members of a class are there
-  pub members_placed : (c : ClassDecl) (fs : List Form) → fs ≡ sorted_by form_start (forms c) → ClassPlaced exprs stmts c → Placed fs
-  members_placed c fs is placed = subst Placed (sym is) (sorted_placed (forms c) (fields_placed c.fields (map one_method c.methods) (methods_placed c.methods placed)))
+  pub members_placed : (c : ClassDecl) (fs : List Form) → fs ≡ sort_by form_start (forms c) → ClassPlaced exprs stmts c → Placed fs
+  members_placed c fs is placed = subst Placed (sym is) (sort_by-placed (forms c) (fields_placed c.fields (map one_method c.methods) (methods_placed c.methods placed)))
 
   pub one_placed : {A : Type 0} (f : A → Form) (xs : List A) (k : ℕ) (d : A) → k < length xs → Placed (map f xs) → IsFormPlaced exprs stmts (f (get_or xs k d))
   one_placed f [] k d within a = absurd (omega arith)
@@ -87,21 +87,21 @@ same_start : (p : Listing) (f : Form) → (form_member p f).start ≡ form_start
 same_start p (one_field f) = refl
 same_start p (one_method m) = refl
 
-members-forms : (p : Listing) (c : ClassDecl) → map (form_member p) (sorted_by form_start (forms c)) ≡ members p c
+members-forms : (p : Listing) (c : ClassDecl) → map (form_member p) (sort_by form_start (forms c)) ≡ members p c
 members-forms p c =
     map-sorted_by form_start (λ m. m.start) (form_member p) (same_start p) (forms c)
-    ∙ ap (sorted_by (λ m. m.start)) (map-append (form_member p) (map one_field c.fields) (map one_method c.methods)
+    ∙ ap (sort_by (λ m. m.start)) (map-append (form_member p) (map one_field c.fields) (map one_method c.methods)
     ∙ ap (λ l. l ++ map (form_member p) (map one_method c.methods)) (map-one p c.fields) ∙ ap (λ l. map (field_member p) c.fields ++ l) (map-method p c.methods))
 
-forms_text-joined : (p : Listing) (fs : List Form) (ends : List ℕ) → joined (map (λ m. m.text) (map (form_member p) fs) ++ ends ∷ []) ≡ forms_text p fs ++ ends
+forms_text-joined : (p : Listing) (fs : List Form) (ends : List ℕ) → parts_text (map (λ m. m.text) (map (form_member p) fs) ++ ends ∷ []) ≡ forms_text p fs ++ ends
 forms_text-joined p [] ends = append-nil ends
 forms_text-joined p (f ∷ fs) ends = ap (λ l. (form_member p f).text ++ l) (forms_text-joined p fs ends) ∙ sym (append_assoc (form_member p f).text (forms_text p fs) ends)
 
 -- the lines between those of the braces
-pub members_text : (p : Listing) (c : ClassDecl) (fs : List Form) (ends : List ℕ) → fs ≡ sorted_by form_start (forms c)
-    → forms_text p fs ++ ends ≡ joined (map (λ m. m.text) (members p c) ++ ends ∷ [])
+pub members_text : (p : Listing) (c : ClassDecl) (fs : List Form) (ends : List ℕ) → fs ≡ sort_by form_start (forms c)
+    → forms_text p fs ++ ends ≡ parts_text (map (λ m. m.text) (members p c) ++ ends ∷ [])
 members_text p c fs ends is =
-    ap (λ l. forms_text p l ++ ends) is ∙ sym (forms_text-joined p (sorted_by form_start (forms c)) ends) ∙ ap (λ l. joined (map (λ (m : text.Member). m.text) l ++ ends ∷ [])) (members-forms p c)
+    ap (λ l. forms_text p l ++ ends) is ∙ sym (forms_text-joined p (sort_by form_start (forms c)) ends) ∙ ap (λ l. parts_text (map (λ (m : text.Member). m.text) l ++ ends ∷ [])) (members-forms p c)
 
 -- ---------- the text of a class ----------
 forms_text-append : (p : Listing) (fs gs : List Form) → forms_text p (fs ++ gs) ≡ forms_text p fs ++ forms_text p gs
@@ -125,7 +125,7 @@ one_more {A} p f ms i m t0 t t' within read before more =
     ∙ ap (λ l. t0 ++ l) (ap (λ (x : A). forms_text p (map f (take i ms)) ++ (form_member p (f x)).text) read ∙ sym (forms_text-take p f ms i m within) ∙ ap (λ k. forms_text p (map f (take k ms))) (sym one))
 
 pub written_class : {A E : Type 0} (r : Result A E) (p : Listing) (c : ClassDecl) (fs : List Form) (t0 t1 t2 t3 t4 t5 : List ℕ)
-    → t1 ≡ t0 ++ codes "class " → t2 ≡ t1 ++ text.name_text p.names c.name → t3 ≡ t2 ++ codes " {\n" → t4 ≡ t3 ++ forms_text p fs → fs ≡ sorted_by form_start (forms c)
+    → t1 ≡ t0 ++ codes "class " → t2 ≡ t1 ++ text.name_text p.names c.name → t3 ≡ t2 ++ codes " {\n" → t4 ≡ t3 ++ forms_text p fs → fs ≡ sort_by form_start (forms c)
     → OnOk r (t5 ≡ t4 ++ codes "}\n") → OnOk r (t5 ≡ t0 ++ text.class_text p c)
 written_class (Ok a) p c fs t0 t1 t2 t3 t4 t5 e1 e2 e3 e4 is e5 =
     let w = text.name_text p.names c.name in

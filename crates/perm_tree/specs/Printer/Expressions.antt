@@ -15,9 +15,9 @@ use Rattle.perm_tree.specs.declared.ast.Expr.TheVariants as node
 use Rattle.perm_tree.specs.Entries.{entries_of}
 
 -- the text of some parts
-abbrev pub joined : List (List ℕ) → List ℕ
-joined [] = []
-joined (part ∷ parts) = part ++ joined parts
+abbrev pub parts_text : List (List ℕ) → List ℕ
+parts_text [] = []
+parts_text (part ∷ parts) = part ++ parts_text parts
 
 -- ---------- names and types ----------
 -- the word of a name
@@ -35,8 +35,8 @@ perm_text Writable = codes "writable"
 abbrev pub type_text : List (List ℕ) → Ty → List ℕ
 type_text names type.Long = codes "long"
 type_text names type.Bool = codes "bool"
-type_text names (type.Ref p (Class n)) = joined (perm_text p ∷ codes " " ∷ word names n ∷ [])
-type_text names (type.Ref p Array) = joined (perm_text p ∷ codes " long[]" ∷ [])
+type_text names (type.Ref p (Class n)) = parts_text (perm_text p ∷ codes " " ∷ word names n ∷ [])
+type_text names (type.Ref p Array) = parts_text (perm_text p ∷ codes " long[]" ∷ [])
 
 -- ---------- operators ----------
 -- how loosely a binary operator binds, from tightest to loosest
@@ -83,13 +83,13 @@ truth_text false = codes "false"
 
 -- ---------- expressions ----------
 -- an expression written down: its text, and how loosely its outermost operator binds, which is 0 where that is no binary one
-pub record Written : Type 0 where
+pub record ExprText : Type 0 where
   pub text : List ℕ
   pub looseness : ℕ
 
 -- something that binds tightest
-abbrev pub tight : List ℕ → Written
-tight text = record { text = text; looseness = 0 }
+abbrev pub tight_text : List ℕ → ExprText
+tight_text text = record { text = text; looseness = 0 }
 
 -- the parts of an operand, which is in parentheses where a test holds
 abbrev pub operand : Bool → List ℕ → List (List ℕ)
@@ -97,33 +97,33 @@ operand true text = codes "(" ∷ text ∷ codes ")" ∷ []
 operand false text = text ∷ []
 
 -- the operand of a unary operator is in parentheses where it is binary
-abbrev pub unary_operand : Written → List (List ℕ)
+abbrev pub unary_operand : ExprText → List (List ℕ)
 unary_operand a = operand (nat_lt 0 a.looseness) a.text
 
 -- a left operand is in parentheses where it binds looser than its operator
-abbrev pub left_operand : BinaryOp → Written → List (List ℕ)
+abbrev pub left_operand : BinaryOp → ExprText → List (List ℕ)
 left_operand o a = operand (nat_lt (level o) a.looseness) a.text
 
 -- a right operand is in parentheses where it binds looser or equally
-abbrev pub right_operand : BinaryOp → Written → List (List ℕ)
+abbrev pub right_operand : BinaryOp → ExprText → List (List ℕ)
 right_operand o b = operand (nat_le (level o) b.looseness) b.text
 
 -- the expression at a place, as it is written
-abbrev pub written_at : List Written → ℕ → Written
-written_at written at = get_or written at (tight [])
+abbrev pub expr_text_at : List ExprText → ℕ → ExprText
+expr_text_at texts at = get_or texts at (tight_text [])
 
 -- an expression written down, by those that stand before it
-abbrev pub written : List (List ℕ) → List Written → Expr → Written
-written names before (node.Number n) = tight (signed_decimal n)
-written names before (node.Bool b) = tight (truth_text b)
-written names before node.Null = tight (codes "null")
-written names before (node.Var x) = tight (word names x.name)
-written names before (node.Unary o a) = tight (joined (sign_text o ∷ unary_operand (written_at before a)))
-written names before (node.Binary o a b) = record {
-  text = joined (left_operand o (written_at before a) ++ operator_text o ∷ right_operand o (written_at before b));
+abbrev pub expr_text_of : List (List ℕ) → List ExprText → Expr → ExprText
+expr_text_of names before (node.Number n) = tight_text (signed_decimal n)
+expr_text_of names before (node.Bool b) = tight_text (truth_text b)
+expr_text_of names before node.Null = tight_text (codes "null")
+expr_text_of names before (node.Var x) = tight_text (word names x.name)
+expr_text_of names before (node.Unary o a) = tight_text (parts_text (sign_text o ∷ unary_operand (expr_text_at before a)))
+expr_text_of names before (node.Binary o a b) = record {
+  text = parts_text (left_operand o (expr_text_at before a) ++ operator_text o ∷ right_operand o (expr_text_at before b));
   looseness = level o;
 }
 
 -- all expressions of a program, written down
-abbrev pub all_written : List (List ℕ) → List Expr → List Written
-all_written names exprs = entries_of (written names) exprs
+abbrev pub expr_texts_of : List (List ℕ) → List Expr → List ExprText
+expr_texts_of names exprs = entries_of (expr_text_of names) exprs

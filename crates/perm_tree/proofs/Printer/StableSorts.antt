@@ -6,7 +6,7 @@ use Rattle.std.specs.List.Sorted.{IsNonDecreasingBy}
 use Rattle.std.specs.Ordering.{is_lt, nat_cmp}
 use Rattle.std.specs.declared.cmp.Ordering.TheVariants.{Less, Equal, Greater}
 use Rattle.std.proofs.lemmas.Bool.Decides.{nat_tests}
-use Rattle.perm_tree.specs.CanonicalText.{inserted, sorted_by}
+use Rattle.perm_tree.specs.Printer.Programs.{insert_by, sort_by}
 
 -- ---------- numbers that tie ----------
 abbrev same : ℕ → ℕ → Bool
@@ -103,23 +103,23 @@ module _ {X : Type 0} (n : X → ℕ) where
       tail z false is e = sym (no_first z x xs is) ∙ e ∙ no_first z x ys is
 
   -- ---------- insertion ----------
-  at_least-inserted : (m : ℕ) (x : X) (ys : List X) → m ≤ n x → AtLeast m ys → AtLeast m (inserted n x ys)
+  at_least-inserted : (m : ℕ) (x : X) (ys : List X) → m ≤ n x → AtLeast m ys → AtLeast m (insert_by n x ys)
   at_least-inserted m x [] l a = (l, tt)
   at_least-inserted m x (y ∷ ys) l a = go (nat_le (n x) (n y)) (at_least-inserted m x ys l a.1)
     where
-      go : (b : Bool) → AtLeast m (inserted n x ys) → AtLeast m (if b then x ∷ y ∷ ys else y ∷ inserted n x ys)
+      go : (b : Bool) → AtLeast m (insert_by n x ys) → AtLeast m (if b then x ∷ y ∷ ys else y ∷ insert_by n x ys)
       go true rest = (l, (a.0, a.1))
       go false rest = (a.0, rest)
 
-  rises-inserted : (x : X) (ys : List X) → Rises ys → Rises (inserted n x ys)
+  rises-inserted : (x : X) (ys : List X) → Rises ys → Rises (insert_by n x ys)
   rises-inserted x [] up = (tt, tt)
   rises-inserted x (y ∷ ys) up = go (nat_le (n x) (n y)) refl (rises-inserted x ys up.1)
     where
-      go : (b : Bool) → nat_le (n x) (n y) ≡ b → Rises (inserted n x ys) → Rises (if b then x ∷ y ∷ ys else y ∷ inserted n x ys)
+      go : (b : Bool) → nat_le (n x) (n y) ≡ b → Rises (insert_by n x ys) → Rises (if b then x ∷ y ∷ ys else y ∷ insert_by n x ys)
       go true is rest = let l : n x ≤ n y = grind (arith, nat_tests) in ((l, lower (n x) (n y) ys l up.0), up)
       go false is rest = let l : n y ≤ n x = grind (arith, nat_tests) in (at_least-inserted (n y) x ys l up.0, rest)
 
-  filter-inserted : (z x : X) (ys : List X) → filter (T z) (inserted n x ys) ≡ filter (T z) (x ∷ ys)
+  filter-inserted : (z x : X) (ys : List X) → filter (T z) (insert_by n x ys) ≡ filter (T z) (x ∷ ys)
   filter-inserted z x [] = refl
   filter-inserted z x (y ∷ ys) = go (nat_le (n x) (n y)) refl (filter-inserted z x ys)
     where
@@ -139,37 +139,37 @@ module _ {X : Type 0} (n : X → ℕ) where
               from_tie : (a b c : ℕ) → (not (nat_lt a b) && not (nat_lt b a)) ≡ true → c < b → c < a
               from_tie a b c e l = grind (arith, nat_tests)
 
-      go : (b : Bool) → nat_le (n x) (n y) ≡ b → filter (T z) (inserted n x ys) ≡ filter (T z) (x ∷ ys) → filter (T z) (if b then x ∷ y ∷ ys else y ∷ inserted n x ys) ≡ filter (T z) (x ∷ y ∷ ys)
+      go : (b : Bool) → nat_le (n x) (n y) ≡ b → filter (T z) (insert_by n x ys) ≡ filter (T z) (x ∷ ys) → filter (T z) (if b then x ∷ y ∷ ys else y ∷ insert_by n x ys) ≡ filter (T z) (x ∷ y ∷ ys)
       go true is rest = refl
       go false is rest =
           let l : n y < n x = grind (arith, nat_tests) in
           ap (λ v. cond (T z y) (y ∷ v) v) rest ∙ swapped (T z x) (T z y) refl refl l
 
-  pub rises-sorted : (xs : List X) → Rises (sorted_by n xs)
+  pub rises-sorted : (xs : List X) → Rises (sort_by n xs)
   rises-sorted [] = tt
-  rises-sorted (x ∷ xs) = rises-inserted x (sorted_by n xs) (rises-sorted xs)
+  rises-sorted (x ∷ xs) = rises-inserted x (sort_by n xs) (rises-sorted xs)
 
-  pub filter-sorted : (z : X) (xs : List X) → filter (T z) (sorted_by n xs) ≡ filter (T z) xs
+  pub filter-sorted : (z : X) (xs : List X) → filter (T z) (sort_by n xs) ≡ filter (T z) xs
   filter-sorted z [] = refl
-  filter-sorted z (x ∷ xs) = filter-inserted z x (sorted_by n xs) ∙ ap (λ v. cond (T z x) (x ∷ v) v) (filter-sorted z xs)
+  filter-sorted z (x ∷ xs) = filter-inserted z x (sort_by n xs) ∙ ap (λ v. cond (T z x) (x ∷ v) v) (filter-sorted z xs)
 
   -- a list in order in which ties stand as they did
-  pub sorted : (xs ys : List X) → IsNonDecreasingBy n ys → ((z : X) → filter (T z) ys ≡ filter (T z) xs) → ys ≡ sorted_by n xs
-  sorted xs ys up ties = unique ys (sorted_by n xs) (rises ys up) (rises-sorted xs) (λ z. ties z ∙ sym (filter-sorted z xs))
+  pub sorted : (xs ys : List X) → IsNonDecreasingBy n ys → ((z : X) → filter (T z) ys ≡ filter (T z) xs) → ys ≡ sort_by n xs
+  sorted xs ys up ties = unique ys (sort_by n xs) (rises ys up) (rises-sorted xs) (λ z. ties z ∙ sym (filter-sorted z xs))
 
 -- ---------- elements of another type ----------
 module _ {A B : Type 0} (m : A → ℕ) (n : B → ℕ) (f : A → B) (same_number : (a : A) → n (f a) ≡ m a) where
-  map-inserted : (x : A) (ys : List A) → map f (inserted m x ys) ≡ inserted n (f x) (map f ys)
+  map-inserted : (x : A) (ys : List A) → map f (insert_by m x ys) ≡ insert_by n (f x) (map f ys)
   map-inserted x [] = refl
   map-inserted x (y ∷ ys) =
       go (nat_le (m x) (m y)) (map-inserted x ys)
-      ∙ ap (λ k. if nat_le k (m y) then f x ∷ f y ∷ map f ys else f y ∷ inserted n (f x) (map f ys)) (sym (same_number x))
-      ∙ ap (λ k. if nat_le (n (f x)) k then f x ∷ f y ∷ map f ys else f y ∷ inserted n (f x) (map f ys)) (sym (same_number y))
+      ∙ ap (λ k. if nat_le k (m y) then f x ∷ f y ∷ map f ys else f y ∷ insert_by n (f x) (map f ys)) (sym (same_number x))
+      ∙ ap (λ k. if nat_le (n (f x)) k then f x ∷ f y ∷ map f ys else f y ∷ insert_by n (f x) (map f ys)) (sym (same_number y))
     where
-      go : (b : Bool) → map f (inserted m x ys) ≡ inserted n (f x) (map f ys) → map f (if b then x ∷ y ∷ ys else y ∷ inserted m x ys) ≡ (if b then f x ∷ f y ∷ map f ys else f y ∷ inserted n (f x) (map f ys))
+      go : (b : Bool) → map f (insert_by m x ys) ≡ insert_by n (f x) (map f ys) → map f (if b then x ∷ y ∷ ys else y ∷ insert_by m x ys) ≡ (if b then f x ∷ f y ∷ map f ys else f y ∷ insert_by n (f x) (map f ys))
       go true rest = refl
       go false rest = ap (λ l. f y ∷ l) rest
 
-  pub map-sorted_by : (xs : List A) → map f (sorted_by m xs) ≡ sorted_by n (map f xs)
+  pub map-sorted_by : (xs : List A) → map f (sort_by m xs) ≡ sort_by n (map f xs)
   map-sorted_by [] = refl
-  map-sorted_by (x ∷ xs) = map-inserted x (sorted_by m xs) ∙ ap (inserted n (f x)) (map-sorted_by xs)
+  map-sorted_by (x ∷ xs) = map-inserted x (sort_by m xs) ∙ ap (insert_by n (f x)) (map-sorted_by xs)

@@ -14,14 +14,14 @@ use Rattle.perm_tree.specs.declared.ast.Ident.{Ident}
 use Rattle.perm_tree.specs.declared.ast.Stmt.{Stmt}
 use Rattle.perm_tree.specs.declared.print.part.Part.{Part}
 use Rattle.perm_tree.specs.declared.print.part.Part.TheVariants.{Operator, Arg as Argument, Expr as Expression, Stmt as Statement}
-use Rattle.perm_tree.specs.Canonical.{Written, joined, left_operand, level, operand, operator_text, right_operand, sign_text, tight, unary_operand, word, written, written_at}
-use Rattle.perm_tree.specs.CanonicalText.{Wording, name_text, wording, stmt_text, stmt_texts}
-use Rattle.perm_tree.specs.Pending.{AllFit, AreParts, Fits, IsPart, Remains, Steps, expr_work, exprs_work, part_text, part_text_in, part_work, rest_text, rest_work, stmt_work, stmts_work, total, work_in}
+use Rattle.perm_tree.specs.Printer.Expressions.{ExprText, parts_text, left_operand, level, operand, operator_text, right_operand, sign_text, tight_text, unary_operand, word, expr_text_of, expr_text_at}
+use Rattle.perm_tree.specs.Printer.Programs.{Wording, name_text, wording, stmt_text, stmt_texts}
+use Rattle.perm_tree.specs.Printer.PendingParts.{AllFit, AreParts, Fits, IsPart, Remains, Steps, expr_work, exprs_work, part_text, part_text_in, part_work, rest_text, rest_work, stmt_work, stmts_work, total, work_in}
 use Rattle.perm_tree.specs.Places.{ExprBelow, IsPlaced, KindPlaced, Listing}
-use Rattle.perm_tree.specs.Printing.{onto, expr_tasks, looseness, looseness_at, looseness_if, operand_tasks, stmt_tasks, truth_task}
+use Rattle.perm_tree.specs.Printer.Parts.{onto, expr_tasks, looseness, looseness_at, looseness_if, operand_tasks, stmt_tasks, truth_task}
 use Rattle.perm_tree.proofs.Entries.{ReadsBefore, entries_of-at, length-entries_of}
-use Rattle.perm_tree.proofs.PrintFits.{expr_fits, first_ones, fits-onto, last_one, stmt_fits}
-use Rattle.perm_tree.proofs.PrintTexts.{rest_text-last, rest_text-none, rest_text-onto, stmt-texts}
+use Rattle.perm_tree.proofs.Printer.Fits.{expr_fits, first_ones, fits-onto, last_one, stmt_fits}
+use Rattle.perm_tree.proofs.Printer.Texts.{rest_text-last, rest_text-none, rest_text-onto, stmt-texts}
 
 -- ---------- parts that are read alike ----------
 map-alike : {A : Type 0} (exprs stmts room : ℕ) (f g : Part → A) → ((x : Part) → Fits exprs stmts room x → f x ≡ g x) → (xs : List Part) → AllFit exprs stmts room xs → map f xs ≡ map g xs
@@ -56,18 +56,18 @@ no-stmts ew sw exprs room (Argument (Consume y)) fit = refl
 no-stmts ew sw exprs room _ fit = refl
 
 -- ---------- entries by those before them ----------
-written-reads : (names : List (List ℕ)) (at : ℕ) (e : Expr) → ExprBelow at e → ReadsBefore (written names) at e
+written-reads : (names : List (List ℕ)) (at : ℕ) (e : Expr) → ExprBelow at e → ReadsBefore (expr_text_of names) at e
 written-reads names at (node.Number n) below before after len = refl
 written-reads names at (node.Bool b) below before after len = refl
 written-reads names at node.Null below before after len = refl
 written-reads names at (node.Var x) below before after len = refl
 written-reads names at (node.Unary o a) below before after len =
-    ap (λ v. tight (joined (sign_text o ∷ unary_operand v))) (get_or-append before after (tight []) a (omega arith))
+    ap (λ v. tight_text (parts_text (sign_text o ∷ unary_operand v))) (get_or-append before after (tight_text []) a (omega arith))
 written-reads names at (node.Binary o a b) below before after len =
-    let left = get_or-append before after (tight []) a (omega (arith, below.0)) in
-    let right = get_or-append before after (tight []) b (omega (arith, below.1)) in
-    let whole : Written → Written → Written = λ v u. record { text = joined (left_operand o v ++ operator_text o ∷ right_operand o u); looseness = level o } in
-    ap (λ v. whole v (written_at (before ++ after) b)) left ∙ ap (whole (written_at before a)) right
+    let left = get_or-append before after (tight_text []) a (omega (arith, below.0)) in
+    let right = get_or-append before after (tight_text []) b (omega (arith, below.1)) in
+    let whole : ExprText → ExprText → ExprText = λ v u. record { text = parts_text (left_operand o v ++ operator_text o ∷ right_operand o u); looseness = level o } in
+    ap (λ v. whole v (expr_text_at (before ++ after) b)) left ∙ ap (whole (expr_text_at before a)) right
 
 expr_work-reads : (exprs : List Expr) (at : ℕ) (e : Expr) → ExprBelow at e → ReadsBefore (expr_work exprs) at e
 expr_work-reads exprs at e below before after len =
@@ -76,7 +76,7 @@ expr_work-reads exprs at e below before after len =
 stmt_text-reads : (w : Wording) (exprs at : ℕ) (s : Stmt) → KindPlaced exprs at s.kind → ReadsBefore (stmt_text w) at s
 stmt_text-reads w exprs at s placed before after len =
     fun_ext (λ depth.
-    ap joined (sym (stmt-texts w (before ++ after) depth s.kind)
+    ap parts_text (sym (stmt-texts w (before ++ after) depth s.kind)
     ∙ map-alike exprs at (depth + at) (part_text_in w (before ++ after)) (part_text_in w before) (texts-front w before after exprs at (depth + at) len) (stmt_tasks depth s.kind) (stmt_fits exprs at (depth + at) depth at s.kind (omega arith) (omega arith) placed)
     ∙ stmt-texts w before depth s.kind))
 
@@ -94,10 +94,10 @@ module _ (p : Listing) (placed : IsPlaced p) where
   T = part_text p
 
   -- an expression as it is written
-  written-here : (at : ℕ) (e : Expr) → slice_get p.exprs at ≡ Some e → written_at W.written at ≡ written p.names W.written e
-  written-here at e here = entries_of-at (written p.names) p.exprs at e (tight []) here (written-reads p.names at e (placed.exprs at e here))
+  written-here : (at : ℕ) (e : Expr) → slice_get p.exprs at ≡ Some e → expr_text_at W.expr_texts at ≡ expr_text_of p.names W.expr_texts e
+  written-here at e here = entries_of-at (expr_text_of p.names) p.exprs at e (tight_text []) here (written-reads p.names at e (placed.exprs at e here))
 
-  looseness-written : (e : Expr) → looseness e ≡ (written p.names W.written e).looseness
+  looseness-written : (e : Expr) → looseness e ≡ (expr_text_of p.names W.expr_texts e).looseness
   looseness-written (node.Number n) = refl
   looseness-written (node.Bool b) = refl
   looseness-written node.Null = refl
@@ -105,48 +105,48 @@ module _ (p : Listing) (placed : IsPlaced p) where
   looseness-written (node.Unary o a) = refl
   looseness-written (node.Binary o a b) = refl
 
-  looseness-here : (at : ℕ) → looseness_at p.exprs at ≡ (written_at W.written at).looseness
+  looseness-here : (at : ℕ) → looseness_at p.exprs at ≡ (expr_text_at W.expr_texts at).looseness
   looseness-here at = go (slice_get_cases p.exprs at).1
     where
       go : ((x : Expr) × (at < length p.exprs) × (slice_get p.exprs at ≡ Some x) × (get_or p.exprs at x ≡ x)) ⊎ ((length p.exprs ≤ at) × (slice_get p.exprs at ≡ None))
-          → looseness_at p.exprs at ≡ (written_at W.written at).looseness
-      go (inl (e, within, here, same)) = ap looseness_if here ∙ looseness-written e ∙ sym (ap (λ (v : Written). v.looseness) (written-here at e here))
+          → looseness_at p.exprs at ≡ (expr_text_at W.expr_texts at).looseness
+      go (inl (e, within, here, same)) = ap looseness_if here ∙ looseness-written e ∙ sym (ap (λ (v : ExprText). v.looseness) (written-here at e here))
       go (inr (past, none)) =
-          ap looseness_if none ∙ sym (ap (λ (v : Written). v.looseness) (get_or-eq_default W.written (tight []) (omega (arith, length-entries_of (written p.names) p.exprs))))
+          ap looseness_if none ∙ sym (ap (λ (v : ExprText). v.looseness) (get_or-eq_default W.expr_texts (tight_text []) (omega (arith, length-entries_of (expr_text_of p.names) p.exprs))))
 
-  operand-text : (b : Bool) (at : ℕ) → map T (operand_tasks b at) ≡ operand b (written_at W.written at).text
+  operand-text : (b : Bool) (at : ℕ) → map T (operand_tasks b at) ≡ operand b (expr_text_at W.expr_texts at).text
   operand-text true at = refl
   operand-text false at = refl
 
-  truth-text : (b : Bool) → joined (T (truth_task b) ∷ []) ≡ (written p.names W.written (node.Bool b)).text
+  truth-text : (b : Bool) → parts_text (T (truth_task b) ∷ []) ≡ (expr_text_of p.names W.expr_texts (node.Bool b)).text
   truth-text true = refl
   truth-text false = refl
 
-  parts-written : (e : Expr) → joined (map T (expr_tasks p.exprs e)) ≡ (written p.names W.written e).text
+  parts-written : (e : Expr) → parts_text (map T (expr_tasks p.exprs e)) ≡ (expr_text_of p.names W.expr_texts e).text
   parts-written (node.Number n) = append-nil (signed_decimal n)
   parts-written (node.Bool b) = truth-text b
   parts-written node.Null = refl
   parts-written (node.Var x) = append-nil (word p.names x.name)
   parts-written (node.Unary o a) =
-      ap (λ l. joined (sign_text o ∷ l))
-      (operand-text (nat_lt 0 (looseness_at p.exprs a)) a ∙ ap (λ n. operand (nat_lt 0 n) (written_at W.written a).text) (looseness-here a))
+      ap (λ l. parts_text (sign_text o ∷ l))
+      (operand-text (nat_lt 0 (looseness_at p.exprs a)) a ∙ ap (λ n. operand (nat_lt 0 n) (expr_text_at W.expr_texts a).text) (looseness-here a))
   parts-written (node.Binary o a b) =
-      let left = operand-text (nat_lt (level o) (looseness_at p.exprs a)) a ∙ ap (λ n. operand (nat_lt (level o) n) (written_at W.written a).text) (looseness-here a) in
-      let right = operand-text (nat_le (level o) (looseness_at p.exprs b)) b ∙ ap (λ n. operand (nat_le (level o) n) (written_at W.written b).text) (looseness-here b) in
-      ap joined
+      let left = operand-text (nat_lt (level o) (looseness_at p.exprs a)) a ∙ ap (λ n. operand (nat_lt (level o) n) (expr_text_at W.expr_texts a).text) (looseness-here a) in
+      let right = operand-text (nat_le (level o) (looseness_at p.exprs b)) b ∙ ap (λ n. operand (nat_le (level o) n) (expr_text_at W.expr_texts b).text) (looseness-here b) in
+      ap parts_text
       (map-append T (operand_tasks (nat_lt (level o) (looseness_at p.exprs a)) a) (Operator o ∷ operand_tasks (nat_le (level o) (looseness_at p.exprs b)) b)
       ∙ ap (λ l. l ++ operator_text o ∷ map T (operand_tasks (nat_le (level o) (looseness_at p.exprs b)) b)) left
-      ∙ ap (λ l. left_operand o (written_at W.written a) ++ operator_text o ∷ l) right)
+      ∙ ap (λ l. left_operand o (expr_text_at W.expr_texts a) ++ operator_text o ∷ l) right)
 
   -- the text of an expression is that of its parts
-  pub expr-text : (at : ℕ) (e : Expr) → slice_get p.exprs at ≡ Some e → T (Expression at) ≡ joined (map T (expr_tasks p.exprs e))
-  expr-text at e here = ap (λ (v : Written). v.text) (written-here at e here) ∙ sym (parts-written e)
+  pub expr-text : (at : ℕ) (e : Expr) → slice_get p.exprs at ≡ Some e → T (Expression at) ≡ parts_text (map T (expr_tasks p.exprs e))
+  expr-text at e here = ap (λ (v : ExprText). v.text) (written-here at e here) ∙ sym (parts-written e)
 
   -- so for a statement
-  pub stmt-text : (at depth : ℕ) (s : Stmt) → slice_get p.stmts at ≡ Some s → T (Statement at depth) ≡ joined (map T (stmt_tasks depth s.kind))
+  pub stmt-text : (at depth : ℕ) (s : Stmt) → slice_get p.stmts at ≡ Some s → T (Statement at depth) ≡ parts_text (map T (stmt_tasks depth s.kind))
   stmt-text at depth s here =
       ap (λ (f : ℕ → List ℕ). f depth) (entries_of-at (stmt_text W) p.stmts at s (λ d. []) here (stmt_text-reads W (length p.exprs) at s (placed.stmts at s here)))
-      ∙ ap joined (sym (stmt-texts W (stmt_texts p) depth s.kind))
+      ∙ ap parts_text (sym (stmt-texts W (stmt_texts p) depth s.kind))
 
   -- an expression takes one step more than its parts
   pub expr-work : (at : ℕ) (e : Expr) → slice_get p.exprs at ≡ Some e → part_work p (Expression at) ≡ suc (total (map (part_work p) (expr_tasks p.exprs e)))
@@ -210,10 +210,10 @@ leaf (Err e) p part part' text text' stack is more = tt
 
 -- a part that is replaced by the parts of which it is made
 pub replaced : {A E : Type 0} (r : Result A E) (p : Listing) (part part' : Part) (parts : List Part) (text : List ℕ) (stack stack' : List Part)
-    → part ≡ part' → part_text p part' ≡ joined (map (part_text p) parts) → AreParts p parts → part_work p part' ≡ suc (total (map (part_work p) parts))
+    → part ≡ part' → part_text p part' ≡ parts_text (map (part_text p) parts) → AreParts p parts → part_work p part' ≡ suc (total (map (part_work p) parts))
     → OnOk r (stack' ≡ onto stack parts) → OnOk r (Steps p part text text stack stack')
 replaced (Ok a) p part part' parts text stack stack' is same fit work pushed_all =
-    let now : part_text p part ≡ joined (map (part_text p) parts) = ap (part_text p) is ∙ same in
+    let now : part_text p part ≡ parts_text (map (part_text p) parts) = ap (part_text p) is ∙ same in
     let steps : part_work p part ≡ suc (total (map (part_work p) parts)) = ap (part_work p) is ∙ work in
     record {
       whole = ap (λ l. text ++ l) (ap (rest_text p) pushed_all ∙ rest_text-onto p stack parts ∙ ap (λ l. l ++ rest_text p stack) (sym now));
@@ -265,7 +265,7 @@ pub consumed-steps : {A E : Type 0} (r : Result A E) (p : Listing) (arg : Arg) (
 consumed-steps {A} {E} (Err e) p arg y text middle text' consume_word stack is spelled first more = tt
 consumed-steps {A} {E} (Ok a) p arg y text middle text' consume_word stack is spelled first more =
     let word_behind : text' ≡ (text ++ codes "consume ") ++ name_text p.names y = more ∙ ap (λ l. l ++ name_text p.names y) (first ∙ ap (λ l. text ++ l) spelled) in
-    let nil : joined (codes "consume " ∷ name_text p.names y ∷ []) ≡ codes "consume " ++ name_text p.names y = ap (λ l. codes "consume " ++ l) (append-nil (name_text p.names y)) in
+    let nil : parts_text (codes "consume " ∷ name_text p.names y ∷ []) ≡ codes "consume " ++ name_text p.names y = ap (λ l. codes "consume " ++ l) (append-nil (name_text p.names y)) in
     leaf {A = A} {E = E} (Ok a) p (Argument arg) (Argument (Consume y)) text text' stack (ap Argument is)
     (word_behind ∙ append_assoc text (codes "consume ") (name_text p.names y) ∙ ap (λ l. text ++ l) (sym nil))
 

@@ -4,7 +4,7 @@ use Rattle.std.specs.Prelude.{OnOk, flat_map, reverse}
 use Rattle.std.proofs.lemmas.List.Concat.{flat_map-append}
 use mathlib.Core.List.{reverse-append, reverse-cons, map-append}
 use Rattle.perm_tree.specs.declared.print.part.Part.{Part}
-use Rattle.perm_tree.specs.Printing.{onto}
+use Rattle.perm_tree.specs.Printer.Parts.{onto}
 
 -- nothing pushed
 pub onto-nil : (stack : List Part) → onto stack [] ≡ stack
