@@ -25,7 +25,7 @@ use Rattle.perm_parse.specs.Machine.{step, walk, note_level}
 use Rattle.perm_parse.specs.Meaning.{meaning}
 use Rattle.perm_parse.specs.Parses.{Parses, IsFront, IsFirstDead, IsTooDeepAt, IsUnexpected, IsRefused, HasOneAnswer, Shallow, deepest}
 use Rattle.perm_parse.specs.Answers.{Answer, parsed, unexpected, too_deep, answer_after, read_from, start, read, IsAnswer}
-use Rattle.perm_parse.specs.ReadingMembers.{Gives}
+use Rattle.perm_parse.specs.MemberResults.{Gives}
 use Rattle.perm_parse.proofs.OneAnswer.Exactness.{complete, exact}
 
 -- ---- what the levels of a walk say of the reading

@@ -14,7 +14,7 @@ use Rattle.perm_tree.proofs.Pushes.{all_append}
 use Rattle.perm_parse.specs.Grammar.{Classes, program_text}
 use Rattle.perm_parse.specs.Meaning.{meaning}
 use Rattle.perm_parse.specs.Parses.{Parses}
-use Rattle.perm_parse.specs.ReadingMembers.{Gives}
+use Rattle.perm_parse.specs.MemberResults.{Gives}
 use Rattle.perm_parse.proofs.WellFormed.DeclaredNames.{meaning-classes, meaning-fields}
 use Rattle.perm_parse.proofs.WellFormed.ExpressionMarks.{AreInOrder, in-order}
 use Rattle.perm_parse.proofs.WellFormed.ProgramMarks.{meaning-marked, meaning-rising}

@@ -56,6 +56,16 @@ IsType (bool_type t) = Is kind.Bool t
 IsType (object_type p perm name) = Is (perm_word p) perm × Is kind.Name name
 IsType (array_type p perm word opening closing) = IsArrayType p perm word opening closing
 
+-- a word that begins a type
+abbrev pub BeginsType : TokenKind → Type 0
+BeginsType kind.Long = Unit {0}
+BeginsType kind.Bool = Unit {0}
+BeginsType kind.Isolated = Unit {0}
+BeginsType kind.Immutable = Unit {0}
+BeginsType kind.Readable = Unit {0}
+BeginsType kind.Writable = Unit {0}
+BeginsType _ = ⊥
+
 -- ---- expressions
 
 -- Unary = "-" Unary | "!" Unary | Number | "true" | "false" | "null" | Var | "(" Expr ")", and the binary operators over Unary

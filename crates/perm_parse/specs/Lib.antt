@@ -3,9 +3,9 @@ pub mod Grammar
 pub mod Levels
 pub mod Machine
 pub mod Meaning
+pub mod MemberResults
+pub mod ParserResults
 pub mod Parses
-pub mod Reading
-pub mod ReadingMembers
 pub mod ReadsBack
 pub mod SameButSpans
 pub mod States

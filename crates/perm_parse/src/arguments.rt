@@ -2,7 +2,7 @@
 
 ghost use Rattle.std.specs.Prelude.{ℕ, ◌+◌, ◌<◌, ◌≤◌, length, IfOk};
 ghost use Rattle.perm_tree.specs.Places.{ArgPlaced, ArgsPlaced};
-ghost use Rattle.perm_parse.specs.Reading.{IsNext, Onward, ReadsArg, ReadsArgs, ReadsGiven};
+ghost use Rattle.perm_parse.specs.ParserResults.{IsNext, Onward, ReadsArg, ReadsArgs, ReadsGiven};
 ghost use Rattle.perm_parse.specs.Parses.{deepest};
 
 use crate::cursor::append;

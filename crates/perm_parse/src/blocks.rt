@@ -3,7 +3,7 @@
 ghost use Rattle.std.specs.Prelude.{◌≡◌, ℕ, ◌+◌, ◌≤◌, ◌<◌, length, IfOk};
 ghost use Rattle.std.specs.Bool.{OnTrue, OnFalse};
 ghost use Rattle.perm_tree.specs.Places.{AllBelow, RhsPlaced};
-ghost use Rattle.perm_parse.specs.Reading.{IsStmtNext, IsNoStmtNext, IsNext, IsNextType, IsNotSecond, Onward, ReadsBlock, ReadsStmt, ReadsStmts, ReadsTest, ReadsValue, begins_stmt};
+ghost use Rattle.perm_parse.specs.ParserResults.{IsStmtNext, IsNoStmtNext, IsNext, IsNextType, IsNotSecond, Onward, ReadsBlock, ReadsStmt, ReadsStmts, ReadsTest, ReadsValue, begins_stmt};
 ghost use Rattle.perm_parse.specs.Parses.{deepest};
 
 use crate::cursor::append;

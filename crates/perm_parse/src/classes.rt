@@ -3,8 +3,8 @@
 ghost use Rattle.std.specs.Prelude.{◌≡◌, ℕ, ◌+◌, ◌<◌, ◌≤◌, All, AllPairs, [], ◌∷◌, ◌++◌, length, OnOk, OnErr, IfOk, IfErr, ◌^◌, codes};
 ghost use Rattle.perm_tree.specs.Places.{ClassPlaced};
 ghost use Rattle.perm_parse.specs.Meaning.{nothing_yet};
-ghost use Rattle.perm_parse.specs.Reading.{Onward};
-ghost use Rattle.perm_parse.specs.ReadingMembers.{Gives, PushesClass, ReadsClass, ReadsClasses};
+ghost use Rattle.perm_parse.specs.ParserResults.{Onward};
+ghost use Rattle.perm_parse.specs.MemberResults.{Gives, PushesClass, ReadsClass, ReadsClasses};
 ghost use Rattle.perm_parse.specs.Tokens.{IsOver, spellings};
 
 use crate::parser::Parser;

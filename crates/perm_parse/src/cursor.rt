@@ -3,7 +3,7 @@
 ghost use Rattle.std.specs.Prelude.{◌≡◌, ℕ, ◌+◌, ◌<◌, ◌≤◌, [], ◌∷◌, ◌++◌, length, slice_get, IfOk, OnErr, OnOk, position, bytes_eq};
 ghost use Rattle.std.specs.Bool.{OnTrue, OnFalse};
 ghost use Rattle.perm_tree.specs.Places.{ExprBelow, KindPlaced};
-ghost use Rattle.perm_parse.specs.Reading.{TakesToken, TakesVar, IsAhead, IsNext, IsNotNext, IsNotSecond, IsSecond, MentionsClass, NamesToken, NumbersName, Onward, OpensLevel, PushesExpr, PushesStmt, NamesVar};
+ghost use Rattle.perm_parse.specs.ParserResults.{TakesToken, TakesVar, IsAhead, IsNext, IsNotNext, IsNotSecond, IsSecond, MentionsClass, NamesToken, NumbersName, Onward, OpensLevel, PushesExpr, PushesStmt, NamesVar};
 ghost use Rattle.perm_parse.specs.Parses.{deepest};
 
 use crate::parser::Parser;

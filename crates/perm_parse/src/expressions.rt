@@ -3,7 +3,7 @@
 ghost use Rattle.std.specs.Prelude.{◌≡◌, ℕ, ◌+◌, ◌<◌, ◌≤◌, length, slice_get, IfOk};
 ghost use Rattle.perm_parse.specs.Grammar.{level, unary_sign};
 ghost use Rattle.perm_parse.specs.Machine.{op_of};
-ghost use Rattle.perm_parse.specs.Reading.{IsClosed, IsNext, Onward, ReadsExpr, of_level, operator_at};
+ghost use Rattle.perm_parse.specs.ParserResults.{IsClosed, IsNext, Onward, ReadsExpr, of_level, operator_at};
 ghost use Rattle.perm_parse.specs.Parses.{deepest};
 
 use crate::parser::Parser;

@@ -2,8 +2,8 @@
 
 ghost use Rattle.std.specs.Prelude.{◌≡◌, ℕ, ◌<◌, ◌≤◌, length, IfOk, OnOk};
 ghost use Rattle.perm_tree.specs.Places.{AllBelow, ArgPlaced, ClassPlaced, MethodPlaced};
-ghost use Rattle.perm_parse.specs.Reading.{IsNoStmtNext, IsNext, IsNotNext, Onward};
-ghost use Rattle.perm_parse.specs.ReadingMembers.{TakesPerm, ReadsDecl, ReadsMember, ReadsMembers, ReadsMethod, ReadsParams, ReadsReturned, ReadsSignature};
+ghost use Rattle.perm_parse.specs.ParserResults.{IsNoStmtNext, IsNext, IsNotNext, Onward};
+ghost use Rattle.perm_parse.specs.MemberResults.{TakesPerm, ReadsDecl, ReadsMember, ReadsMembers, ReadsMethod, ReadsParams, ReadsReturned, ReadsSignature};
 ghost use Rattle.perm_parse.specs.Parses.{deepest};
 
 use crate::cursor::append;

@@ -2,7 +2,7 @@
 
 ghost use Rattle.std.specs.Prelude.{◌≡◌, ℕ, ◌≤◌, ◌<◌, length, IfOk};
 ghost use Rattle.perm_tree.specs.Places.{KindPlaced};
-ghost use Rattle.perm_parse.specs.Reading.{EndsStmt, IsNext, IsNextType, IsNextVar, IsSecond, Onward, ReadsLocal, ReadsStmt};
+ghost use Rattle.perm_parse.specs.ParserResults.{EndsStmt, IsNext, IsNextType, IsNextVar, IsSecond, Onward, ReadsLocal, ReadsStmt};
 ghost use Rattle.perm_parse.specs.Parses.{deepest};
 
 use crate::parser::{LocalHead, Parser};

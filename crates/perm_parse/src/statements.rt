@@ -2,7 +2,7 @@
 
 ghost use Rattle.std.specs.Prelude.{◌≡◌, ℕ, ◌≤◌, ◌<◌, length, IfOk};
 ghost use Rattle.perm_parse.specs.Meaning.{span_over};
-ghost use Rattle.perm_parse.specs.Reading.{IsNext, Onward, ReadsStmt};
+ghost use Rattle.perm_parse.specs.ParserResults.{IsNext, Onward, ReadsStmt};
 ghost use Rattle.perm_parse.specs.Parses.{deepest};
 
 use crate::parser::Parser;

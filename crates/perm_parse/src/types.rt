@@ -2,7 +2,7 @@
 
 ghost use Rattle.std.specs.Prelude.{◌≡◌, ℕ, ◌≤◌, IfOk, ◌<◌};
 ghost use Rattle.perm_parse.specs.Grammar.{perm_word};
-ghost use Rattle.perm_parse.specs.Reading.{IsNext, Onward, ReadsShape, ReadsType};
+ghost use Rattle.perm_parse.specs.ParserResults.{IsNext, Onward, ReadsShape, ReadsType};
 ghost use Rattle.perm_parse.specs.Parses.{deepest};
 
 use crate::parser::Parser;

@@ -2,7 +2,7 @@
 
 ghost use Rattle.std.specs.Prelude.{◌≡◌, ℕ, ◌≤◌, ◌<◌, length, IfOk};
 ghost use Rattle.perm_tree.specs.Places.{RhsPlaced};
-ghost use Rattle.perm_parse.specs.Reading.{IsNext, IsNextVar, IsNotSecond, IsPlain, IsSecond, Onward, ReadsValue};
+ghost use Rattle.perm_parse.specs.ParserResults.{IsNext, IsNextVar, IsNotSecond, IsPlain, IsSecond, Onward, ReadsValue};
 ghost use Rattle.perm_parse.specs.Parses.{deepest};
 
 use crate::parser::{Parser, Value};

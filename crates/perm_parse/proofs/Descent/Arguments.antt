@@ -12,7 +12,7 @@ use Rattle.perm_parse.specs.declared.parser.Parser.{Parser}
 use Rattle.perm_parse.specs.Grammar.{ExprTree, ArgTree, Args}
 use Rattle.perm_parse.specs.States.{State, Purpose, ArgFor, ArgsPart, CallPart, arg_for_text, level_arg_for, level_call_part, level_state}
 use Rattle.perm_parse.specs.Machine.{step_arg, step_args, step_operand, finish_arg, behind, push_arg, close_call, op_of}
-use Rattle.perm_parse.specs.Reading.{IsNotNext, TakesToken, TakesVar, NamesVar, Leads, NoOp, IsClosed, ReadsExpr, ArgRead, ReadsArg, ArgsPartRead, ArgsRead, ReadsArgs}
+use Rattle.perm_parse.specs.ParserResults.{IsNotNext, TakesToken, TakesVar, NamesVar, Leads, NoOp, IsClosed, ReadsExpr, ArgRead, ReadsArg, ArgsPartRead, ArgsRead, ReadsArgs}
 use Rattle.perm_parse.proofs.OneAnswer.ExpressionRuns.{level-most}
 use Rattle.perm_parse.proofs.Descent.TokenSteps.{via, refused, here, takes, misses, takes-var, misses-var, same-next}
 use Rattle.perm_tree.specs.declared.ast.BinaryOp.{BinaryOp}

@@ -10,7 +10,7 @@ use Rattle.perm_parse.specs.declared.parser.Parser.{Parser}
 use Rattle.perm_parse.specs.Grammar.{BlockTree, Stmts}
 use Rattle.perm_parse.specs.States.{State, BodyPart, Lead, Open, Outer, level_outer, level_state}
 use Rattle.perm_parse.specs.Machine.{after_block, enter, gives, step_listing}
-use Rattle.perm_parse.specs.Reading.{IsNoStmtNext, OpensLevel, TakesToken, Leads, Closes, begins_stmt, StmtRead, ReadsStmt, StmtsRead, ReadsStmts, BlockRead, ReadsBlock}
+use Rattle.perm_parse.specs.ParserResults.{IsNoStmtNext, OpensLevel, TakesToken, Leads, Closes, begins_stmt, StmtRead, ReadsStmt, StmtsRead, ReadsStmts, BlockRead, ReadsBlock}
 use Rattle.perm_parse.specs.Parses.{deepest}
 use Rattle.perm_parse.proofs.Descent.TokenSteps.{via, refused, takes, misses}
 use Rattle.perm_parse.proofs.Descent.Types.{opened-or}

@@ -13,7 +13,7 @@ use Rattle.perm_parse.specs.Grammar.{ExprTree, BlockTree, StmtTree, Stmts}
 use Rattle.perm_parse.specs.States.{State, Purpose, Lead, Open, Outer, open_text, level_open, level_outer}
 use Rattle.perm_parse.specs.Machine.{add_if, enter, finish, step_after_then, step_listing}
 use Rattle.perm_parse.specs.Meaning.{span_over}
-use Rattle.perm_parse.specs.Reading.{IsNotNext, TakesToken, OpensLevel, Leads, IsClosed, ReadsExpr, PushesStmt, ReadsStmt, ReadsBlock, Between, TestRead, ReadsTest, test_due}
+use Rattle.perm_parse.specs.ParserResults.{IsNotNext, TakesToken, OpensLevel, Leads, IsClosed, ReadsExpr, PushesStmt, ReadsStmt, ReadsBlock, Between, TestRead, ReadsTest, test_due}
 use Rattle.perm_parse.specs.Parses.{deepest}
 use Rattle.perm_parse.proofs.Descent.TokenSteps.{via, refused, here, no-memory, takes, misses, same-next}
 use Rattle.perm_parse.proofs.Descent.Operands.{only-closes}

@@ -11,7 +11,7 @@ use Rattle.perm_parse.specs.declared.parser.Parser.{Parser}
 use Rattle.perm_parse.specs.Grammar.{CallTree, RecvTree, StmtTree, Stmts}
 use Rattle.perm_parse.specs.States.{State, CallFor, CallPart, Open, Outer, Wanted, level_outer, open_text}
 use Rattle.perm_parse.specs.Machine.{gives_receiver, close_call}
-use Rattle.perm_parse.specs.Reading.{IsNext, TakesToken, OpensLevel, Leads, ReadsArgs, ReadsGiven, EndsStmt, ReadsStmt}
+use Rattle.perm_parse.specs.ParserResults.{IsNext, TakesToken, OpensLevel, Leads, ReadsArgs, ReadsGiven, EndsStmt, ReadsStmt}
 use Rattle.perm_parse.specs.Parses.{deepest}
 use Rattle.perm_parse.proofs.Descent.TokenSteps.{via, refused, takes, misses, only-expects}
 use Rattle.perm_parse.proofs.Descent.Operands.{not-opened}

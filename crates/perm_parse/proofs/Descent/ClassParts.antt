@@ -4,9 +4,7 @@ use Rattle.std.specs.List.{slice_get}
 use Rattle.std.specs.Result.{OnErr, OnOk}
 use Rattle.std.proofs.lemmas.Option.{slice_get_cases}
 use Rattle.perm_tree.proofs.Pushes.{all_more, arg_more, get_push}
-use Rattle.perm_tree.specs.Places.{ArgPlaced, ClassPlaced, MethodPlaced}
-use Rattle.perm_tree.specs.declared.ast.Arg.{Arg}
-use Rattle.perm_tree.specs.declared.ast.Arg.TheVariants.{Expr as Plain, Consume}
+use Rattle.perm_tree.specs.Places.{ClassPlaced, MethodPlaced}
 use Rattle.perm_tree.specs.declared.ast.ClassDecl.{ClassDecl}
 use Rattle.perm_tree.specs.declared.ast.FieldDecl.{FieldDecl}
 use Rattle.perm_tree.specs.declared.ast.Ident.{Ident}
@@ -20,8 +18,8 @@ use Rattle.perm_parse.specs.declared.parser.Parser.{Parser}
 use Rattle.perm_parse.specs.Grammar.{TypeTree, MemberTree, Members, Classes}
 use Rattle.perm_parse.specs.States.{State, TypeFor, ClassPart}
 use Rattle.perm_parse.specs.Machine.{step_type, step_classes, step_in_class, step_member_named, end_field}
-use Rattle.perm_parse.specs.Reading.{IsNotNext, TakesToken, OpensLevel, NamesToken, Leads, Refuses}
-use Rattle.perm_parse.specs.ReadingMembers.{ReadsDecl, ReadsMethod, MemberRead, ReadsMember, MembersPartRead, MembersRead, ReadsMembers, PushesClass, ReadsClass}
+use Rattle.perm_parse.specs.ParserResults.{IsNotNext, TakesToken, OpensLevel, NamesToken, Leads, Refuses}
+use Rattle.perm_parse.specs.MemberResults.{ReadsDecl, ReadsMethod, MemberRead, ReadsMember, MembersPartRead, MembersRead, ReadsMembers, PushesClass, ReadsClass}
 use Rattle.perm_parse.proofs.Descent.Types.{opened-or}
 use Rattle.perm_parse.proofs.Descent.TokenSteps.{dead, here, only-expects, via, refused, no-memory, takes, misses, same-next}
 

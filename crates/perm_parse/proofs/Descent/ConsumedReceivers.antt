@@ -11,7 +11,7 @@ use Rattle.perm_parse.specs.States.{State, Assigning, CallFor, CallPart, level_a
 use Rattle.perm_parse.specs.Machine.{gives_receiver, opens_args, after_value}
 use Rattle.perm_tree.specs.declared.ast.Call.{Call}
 use Rattle.perm_tree.specs.declared.ast.Rhs.TheVariants as right
-use Rattle.perm_parse.specs.Reading.{IsNext, IsSecond, ValueRead, ReadsValue, TakesToken, TakesVar, OpensLevel, NamesToken, NamesVar, Leads, ReadsArgs, GivenRead, ReadsGiven}
+use Rattle.perm_parse.specs.ParserResults.{IsNext, IsSecond, ValueRead, ReadsValue, TakesToken, TakesVar, OpensLevel, NamesToken, NamesVar, Leads, ReadsArgs, GivenRead, ReadsGiven}
 use Rattle.perm_parse.specs.Parses.{deepest}
 use Rattle.perm_parse.proofs.Descent.TokenSteps.{via, refused, here, takes, misses, takes-var, misses-var, only-expects}
 use Rattle.perm_parse.proofs.Descent.Types.{opened-or}

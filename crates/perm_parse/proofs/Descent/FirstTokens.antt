@@ -4,7 +4,7 @@ use Rattle.perm_tree.specs.declared.tokens.Token.{Token}
 use Rattle.perm_tree.specs.declared.tokens.TokenKind.TheVariants as kind
 use Rattle.perm_parse.specs.declared.parser.Parser.{Parser}
 use Rattle.perm_parse.specs.Grammar.{IsVar}
-use Rattle.perm_parse.specs.Reading.{Next, IsPlain}
+use Rattle.perm_parse.specs.ParserResults.{Next, IsPlain}
 use Rattle.perm_parse.proofs.Descent.Operands.{some-token}
 
 -- a token that begins no other right side begins an expression

@@ -11,7 +11,7 @@ use Rattle.perm_parse.specs.declared.parser.Parser.{Parser}
 use Rattle.perm_parse.specs.Grammar.{ExprTree, ArgTree, StmtTree, Stmts}
 use Rattle.perm_parse.specs.States.{State, Purpose, ArgFor, Open, Outer, level_outer}
 use Rattle.perm_parse.specs.Machine.{finish, finish_arg, step_member_seen}
-use Rattle.perm_parse.specs.Reading.{IsSecond, IsNotNext, TakesToken, TakesVar, OpensLevel, NamesVar, Leads, IsClosed, ReadsExpr, ReadsArg, EndsStmt, ReadsStmt}
+use Rattle.perm_parse.specs.ParserResults.{IsSecond, IsNotNext, TakesToken, TakesVar, OpensLevel, NamesVar, Leads, IsClosed, ReadsExpr, ReadsArg, EndsStmt, ReadsStmt}
 use Rattle.perm_parse.specs.Parses.{deepest}
 use Rattle.perm_parse.proofs.Descent.TokenSteps.{via, refused, here, takes, misses, only-expects}
 use Rattle.perm_parse.proofs.Descent.Operands.{only-closes, not-opened}

@@ -7,11 +7,12 @@ use Rattle.perm_tree.specs.declared.errors.ParseError.{ParseError}
 use Rattle.perm_tree.specs.declared.tokens.Token.{Token}
 use Rattle.perm_tree.specs.declared.tokens.TokenKind.{TokenKind}
 use Rattle.perm_tree.specs.declared.tokens.TokenKind.TheVariants as kind
+use Rattle.perm_parse.specs.Grammar.{BeginsType}
 use Rattle.perm_parse.specs.declared.parser.Parser.{Parser}
 use Rattle.perm_parse.specs.Meaning.{type_first}
 use Rattle.perm_parse.specs.States.{State, Open, TypeFor}
 use Rattle.perm_parse.specs.Machine.{step_listing, step_type}
-use Rattle.perm_parse.specs.Reading.{Next, BeginsType, IsNextType, TakesToken, NamesToken, Leads, ReadsType, LocalRead, ReadsLocal}
+use Rattle.perm_parse.specs.ParserResults.{Next, IsNextType, TakesToken, NamesToken, Leads, ReadsType, LocalRead, ReadsLocal}
 use Rattle.perm_parse.specs.Parses.{deepest}
 use Rattle.perm_parse.proofs.Descent.TokenSteps.{via, refused, here, takes, misses, only-expects, same-next}
 use Rattle.perm_parse.proofs.Descent.Operands.{some-token}

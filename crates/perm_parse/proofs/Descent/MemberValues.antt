@@ -11,7 +11,7 @@ use Rattle.perm_parse.specs.declared.parser.Parser.{Parser}
 use Rattle.perm_parse.specs.Grammar.{RecvTree, CallTree, RhsTree}
 use Rattle.perm_parse.specs.States.{State, Assigning, CallFor, CallPart, level_assigning}
 use Rattle.perm_parse.specs.Machine.{step_value_member, after_value, close_call}
-use Rattle.perm_parse.specs.Reading.{IsNext, IsSecond, IsNotNext, TakesToken, TakesVar, OpensLevel, NamesToken, NamesVar, Leads, ReadsArgs, ValueRead, ReadsValue}
+use Rattle.perm_parse.specs.ParserResults.{IsNext, IsSecond, IsNotNext, TakesToken, TakesVar, OpensLevel, NamesToken, NamesVar, Leads, ReadsArgs, ValueRead, ReadsValue}
 use Rattle.perm_parse.specs.Parses.{deepest}
 use Rattle.perm_parse.proofs.Descent.TokenSteps.{via, refused, here, takes, misses, only-expects}
 use Rattle.perm_parse.proofs.Descent.Operands.{not-opened}

@@ -18,8 +18,8 @@ use Rattle.perm_parse.specs.Grammar.{perm_word, TypeTree, ArgTree, Params, Stmts
 use Rattle.perm_parse.specs.States.{State, ArgFor, ClassPart, MethodPart, Outer, Open, BodyPart, level_state}
 use Rattle.perm_parse.specs.Machine.{step_perm, finish_arg, opens_body, end_method}
 use Rattle.perm_parse.specs.Meaning.{span_over}
-use Rattle.perm_parse.specs.Reading.{IsNext, TakesToken, OpensLevel, Leads, Refuses, ReadsArg, IsNoStmtNext, ReadsStmts}
-use Rattle.perm_parse.specs.ReadingMembers.{ReadsParams, TakesPerm, SignatureRead, ReadsSignature, ReturnedRead, ReadsReturned, MethodRead}
+use Rattle.perm_parse.specs.ParserResults.{IsNext, TakesToken, OpensLevel, Leads, Refuses, ReadsArg, IsNoStmtNext, ReadsStmts}
+use Rattle.perm_parse.specs.MemberResults.{ReadsParams, TakesPerm, SignatureRead, ReadsSignature, ReturnedRead, ReadsReturned, MethodRead}
 use Rattle.perm_parse.proofs.Descent.TokenSteps.{via, refused, stepped, dead, at-end, takes, misses, only-expects}
 use Rattle.perm_parse.proofs.Descent.Blocks.{body-closes}
 use Rattle.perm_parse.proofs.Descent.Operands.{not-opened}

@@ -11,7 +11,7 @@ use Rattle.perm_parse.specs.Grammar.{ExprTree, RhsTree}
 use Rattle.perm_parse.specs.States.{State, Purpose, Assigning, level_assigning}
 use Rattle.perm_parse.specs.Machine.{step_new, finish, after_value}
 use Rattle.perm_parse.specs.Meaning.{ident}
-use Rattle.perm_parse.specs.Reading.{Next, Second, IsSecond, IsNotSecond, IsAhead, TakesToken, OpensLevel, NamesToken, MentionsClass, Leads, IsClosed, ReadsExpr, ValueRead, ReadsValue}
+use Rattle.perm_parse.specs.ParserResults.{Next, Second, IsSecond, IsNotSecond, IsAhead, TakesToken, OpensLevel, NamesToken, MentionsClass, Leads, IsClosed, ReadsExpr, ValueRead, ReadsValue}
 use Rattle.perm_parse.specs.Parses.{deepest}
 use Rattle.perm_parse.proofs.Descent.TokenSteps.{via, refused, here, takes, misses, only-expects}
 use Rattle.perm_parse.proofs.Descent.Operands.{only-closes}

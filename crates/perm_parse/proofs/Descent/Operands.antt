@@ -21,7 +21,7 @@ use Rattle.perm_parse.specs.States.{State, Pending, Purpose, Room, level_pending
 use Rattle.perm_parse.specs.Machine.{step_as, step_operand, finish, behind, op_of}
 use Rattle.perm_parse.specs.Meaning.{push_expr, expr_of}
 use Rattle.perm_parse.specs.Answers.{read_from, answer_after}
-use Rattle.perm_parse.specs.Reading.{rest, From, Next, IsNext, IsAhead, IsHere, TakesToken, OpensLevel, PushesExpr, NamesVar, Leads, Refuses, NoOp, IsClosed, ExprRead, ReadsExpr, of_level, operator_at}
+use Rattle.perm_parse.specs.ParserResults.{rest, From, Next, IsNext, IsAhead, IsHere, TakesToken, OpensLevel, PushesExpr, NamesVar, Leads, Refuses, NoOp, IsClosed, ExprRead, ReadsExpr, of_level, operator_at}
 use Rattle.perm_parse.specs.Parses.{deepest}
 use Rattle.perm_parse.proofs.OneAnswer.ExpressionRuns.{level-positive, level-most, reduce-stays, op_of-sign}
 use Rattle.perm_parse.proofs.OneAnswer.Soundness.{op_of-is}

@@ -11,8 +11,8 @@ use Rattle.perm_parse.specs.declared.parser.Parser.{Parser}
 use Rattle.perm_parse.specs.Grammar.{TypeTree, ParamList, Params}
 use Rattle.perm_parse.specs.States.{State, TypeFor, MethodPart, ParamsPart, level_type_for, level_state}
 use Rattle.perm_parse.specs.Machine.{step_type, step_params, step_param_named, after_type, after_named_type}
-use Rattle.perm_parse.specs.Reading.{IsNotNext, TakesToken, NamesToken, Leads, ReadsType}
-use Rattle.perm_parse.specs.ReadingMembers.{DeclRead, ReadsDecl, ParamsPartRead, ParamsRead, ReadsParams}
+use Rattle.perm_parse.specs.ParserResults.{IsNotNext, TakesToken, NamesToken, Leads, ReadsType}
+use Rattle.perm_parse.specs.MemberResults.{DeclRead, ReadsDecl, ParamsPartRead, ParamsRead, ReadsParams}
 use Rattle.perm_parse.specs.Parses.{deepest}
 use Rattle.perm_parse.proofs.Descent.TokenSteps.{via, refused, here, takes, misses, only-expects, same-next}
 

@@ -11,7 +11,7 @@ use Rattle.perm_parse.specs.Grammar.{ExprTree, StmtTree, Stmts}
 use Rattle.perm_parse.specs.States.{State, Purpose, Open, Outer, level_outer}
 use Rattle.perm_parse.specs.Machine.{finish}
 use Rattle.perm_parse.specs.Meaning.{simple}
-use Rattle.perm_parse.specs.Reading.{TakesToken, Leads, IsClosed, ReadsExpr, PushesStmt, ReadsStmt}
+use Rattle.perm_parse.specs.ParserResults.{TakesToken, Leads, IsClosed, ReadsExpr, PushesStmt, ReadsStmt}
 use Rattle.perm_parse.specs.Parses.{deepest}
 use Rattle.perm_parse.proofs.Descent.TokenSteps.{via, refused, here, no-memory, takes, misses}
 use Rattle.perm_parse.proofs.Descent.Operands.{only-closes}

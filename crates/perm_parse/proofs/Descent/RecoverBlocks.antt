@@ -11,7 +11,7 @@ use Rattle.perm_parse.specs.Grammar.{TargetTree, RhsTree, Stmts}
 use Rattle.perm_parse.specs.States.{State, Assigning, Lead, Open, Outer, level_assigning, level_outer}
 use Rattle.perm_parse.specs.Machine.{after_value, enter}
 use Rattle.perm_parse.specs.Meaning.{span_over}
-use Rattle.perm_parse.specs.Reading.{IsNoStmtNext, TakesToken, OpensLevel, NamesToken, Leads, Refuses, ReadsStmts, ValueRead}
+use Rattle.perm_parse.specs.ParserResults.{IsNoStmtNext, TakesToken, OpensLevel, NamesToken, Leads, Refuses, ReadsStmts, ValueRead}
 use Rattle.perm_parse.specs.Parses.{deepest}
 use Rattle.perm_parse.proofs.Descent.TokenSteps.{via, refused, here, takes, misses, only-expects}
 use Rattle.perm_parse.proofs.Descent.Types.{opened-or}

@@ -12,7 +12,7 @@ use Rattle.perm_parse.specs.Grammar.{ExprTree, ArgTree, RhsTree, Is, IsVar}
 use Rattle.perm_parse.specs.States.{State, Open, Purpose, ArgFor, Assigning, level_assigning, level_state}
 use Rattle.perm_parse.specs.Machine.{step, step_value, step_operand, step_value_named, step_paren, behind, finish, after_value, op_of}
 use Rattle.perm_parse.specs.Answers.{read_from, answer_at_end}
-use Rattle.perm_parse.specs.Reading.{rest, From, Next, IsPlain, TakesToken, Leads, IsClosed, ReadsExpr, ValueRead, ReadsValue}
+use Rattle.perm_parse.specs.ParserResults.{rest, From, Next, IsPlain, TakesToken, Leads, IsClosed, ReadsExpr, ValueRead, ReadsValue}
 use Rattle.perm_parse.specs.Parses.{deepest}
 use Rattle.perm_parse.proofs.Descent.TokenSteps.{via, refused, takes, misses, drop-some, drop-none}
 use Rattle.perm_parse.proofs.Descent.Operands.{only-closes}

@@ -12,7 +12,7 @@ use Rattle.perm_parse.specs.declared.parser.Parser.{Parser}
 use Rattle.perm_parse.specs.States.{State, Open, level_open, level_state}
 use Rattle.perm_parse.specs.Machine.{step_as}
 use Rattle.perm_parse.specs.Meaning.{simple}
-use Rattle.perm_parse.specs.Reading.{TakesToken, TakesVar, NamesVar, Leads, Refuses, PushesStmt, StmtEnded, EndsStmt}
+use Rattle.perm_parse.specs.ParserResults.{TakesToken, TakesVar, NamesVar, Leads, Refuses, PushesStmt, StmtEnded, EndsStmt}
 use Rattle.perm_parse.specs.Parses.{deepest}
 use Rattle.perm_parse.proofs.Descent.TokenSteps.{Only, via, here, misses, stepped-on}
 use Rattle.perm_parse.proofs.Descent.VariableValues.{takes-named}

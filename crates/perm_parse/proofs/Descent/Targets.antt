@@ -17,7 +17,7 @@ use Rattle.perm_parse.specs.Grammar.{Is, TypeTree, TargetTree, StmtTree, Stmts}
 use Rattle.perm_parse.specs.States.{State, Assigning, Open, Outer, level_outer}
 use Rattle.perm_parse.specs.Machine.{step_begun, step_local_named}
 use Rattle.perm_parse.specs.Meaning.{simple, span_over}
-use Rattle.perm_parse.specs.Reading.{Next, IsNotNext, IsNotSecond, IsHere, TakesToken, NamesToken, Leads, ReadsLocal, ReadsValue, PushesStmt, ReadsStmt}
+use Rattle.perm_parse.specs.ParserResults.{Next, IsNotNext, IsNotSecond, IsHere, TakesToken, NamesToken, Leads, ReadsLocal, ReadsValue, PushesStmt, ReadsStmt}
 use Rattle.perm_parse.specs.Parses.{deepest}
 use Rattle.perm_parse.proofs.Descent.TokenSteps.{via, refused, here, no-memory, takes, misses}
 use Rattle.perm_parse.proofs.Descent.NewValues.{now-next}

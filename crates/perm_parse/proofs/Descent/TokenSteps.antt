@@ -16,7 +16,7 @@ use Rattle.perm_parse.specs.Grammar.{Is, IsVar}
 use Rattle.perm_parse.specs.States.{State, Wanted, level_state}
 use Rattle.perm_parse.specs.Machine.{step, step_as, is_variable, state_if}
 use Rattle.perm_parse.specs.Answers.{read_from, answer_at_end, unexpected, too_deep}
-use Rattle.perm_parse.specs.Reading.{rest, From, Next, IsAhead, IsHere, Onward, TakesToken, TakesVar, Leads, Refuses}
+use Rattle.perm_parse.specs.ParserResults.{rest, From, Next, IsAhead, IsHere, Onward, TakesToken, TakesVar, Leads, Refuses}
 use Rattle.perm_parse.specs.Parses.{deepest}
 
 -- ---- the token that comes next

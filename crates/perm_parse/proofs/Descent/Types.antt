@@ -18,7 +18,7 @@ use Rattle.perm_parse.specs.Grammar.{TypeTree, perm_word}
 use Rattle.perm_parse.specs.States.{State, TypeFor, Wanted, type_for_text, level_type_for, level_state}
 use Rattle.perm_parse.specs.Machine.{step_as, step_type, step_perm_seen, after_type}
 use Rattle.perm_parse.specs.Meaning.{ident, type_of, type_first}
-use Rattle.perm_parse.specs.Reading.{Next, IsNotNext, TakesToken, OpensLevel, NamesToken, MentionsClass, Leads, Refuses, ShapeRead, ReadsShape, TypeRead, ReadsType}
+use Rattle.perm_parse.specs.ParserResults.{Next, IsNotNext, TakesToken, OpensLevel, NamesToken, MentionsClass, Leads, Refuses, ShapeRead, ReadsShape, TypeRead, ReadsType}
 use Rattle.perm_parse.specs.Parses.{deepest}
 use Rattle.perm_parse.proofs.Descent.TokenSteps.{via, refused, here, dead, at-end, takes, misses, only-expects, too-deep}
 

@@ -12,7 +12,7 @@ use Rattle.perm_parse.specs.Grammar.{ExprTree, ArgTree, RhsTree, IsVar}
 use Rattle.perm_parse.specs.States.{State, Purpose, Assigning, assigning_text, level_assigning, level_state}
 use Rattle.perm_parse.specs.Machine.{step_as, step_value_consumed, finish, after_value}
 use Rattle.perm_parse.specs.Meaning.{var}
-use Rattle.perm_parse.specs.Reading.{IsNext, IsNextVar, IsSecond, IsNotNext, IsAhead, IsHere, TakesToken, TakesVar, OpensLevel, NamesToken, NamesVar, Leads, IsClosed, ReadsExpr, ValueRead, ReadsValue}
+use Rattle.perm_parse.specs.ParserResults.{IsNext, IsNextVar, IsSecond, IsNotNext, IsAhead, IsHere, TakesToken, TakesVar, OpensLevel, NamesToken, NamesVar, Leads, IsClosed, ReadsExpr, ValueRead, ReadsValue}
 use Rattle.perm_parse.specs.Parses.{deepest}
 use Rattle.perm_parse.proofs.Descent.TokenSteps.{via, refused, here, takes, misses, takes-var, misses-var, only-expects, stepped}
 use Rattle.perm_parse.proofs.Descent.Operands.{only-closes, not-opened}

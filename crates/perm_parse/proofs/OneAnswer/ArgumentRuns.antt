@@ -6,7 +6,7 @@ use Rattle.perm_tree.specs.declared.ast.UnaryOp.TheVariants as unary_op
 use Rattle.perm_tree.specs.declared.tokens.Token.{Token}
 use Rattle.perm_tree.specs.declared.tokens.TokenKind.{TokenKind}
 use Rattle.perm_tree.specs.declared.tokens.TokenKind.TheVariants as kind
-use Rattle.perm_parse.specs.Grammar.{TypeTree, ExprTree, ArgTree, ArgList, Args, Is, IsVar, IsType, IsExpr, IsArg, IsArgList, AreArgs, perm_word, type_text, expr_text, arg_text, arg_list_text, args_text}
+use Rattle.perm_parse.specs.Grammar.{TypeTree, ExprTree, ArgTree, ArgList, Args, Is, IsVar, IsType, IsExpr, IsArg, IsArgList, AreArgs, perm_word, type_text, expr_text, arg_text, arg_list_text, args_text, BeginsType}
 use Rattle.perm_parse.specs.Levels.{type_levels, expr_levels, arg_levels, arg_list_levels, args_levels}
 use Rattle.perm_parse.specs.States.{Purpose, TypeFor, ArgFor, ArgsPart, CallPart, State, level_state, level_purpose, level_type_for, level_arg_for, level_call_part}
 use Rattle.perm_parse.specs.Machine.{step_as, step_type, finish, finish_arg, push_arg, close_call, after_type, walk, note_level, op_of}
@@ -102,15 +102,6 @@ args c Args.no_args closing h is next = go is refl next
 args c (Args.args list) closing h is next = arg_list c list closing h is refl (λ part a e. ap (λ (l : ArgList). Some (close_call c (Args.args l) closing)) e) next
 
 -- ---- types
-
-abbrev pub BeginsType : TokenKind → Type 0
-BeginsType kind.Long = Unit {0}
-BeginsType kind.Bool = Unit {0}
-BeginsType kind.Isolated = Unit {0}
-BeginsType kind.Immutable = Unit {0}
-BeginsType kind.Readable = Unit {0}
-BeginsType kind.Writable = Unit {0}
-BeginsType _ = ⊥
 
 begins-perm : (p : Perm) → BeginsType (perm_word p)
 begins-perm perm.Isolated = tt

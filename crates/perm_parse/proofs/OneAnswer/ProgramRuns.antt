@@ -5,12 +5,12 @@ use Rattle.perm_tree.specs.declared.ast.Perm.TheVariants as perm
 use Rattle.perm_tree.specs.declared.tokens.Token.{Token}
 use Rattle.perm_tree.specs.declared.tokens.TokenKind.{TokenKind}
 use Rattle.perm_tree.specs.declared.tokens.TokenKind.TheVariants as kind
-use Rattle.perm_parse.specs.Grammar.{ParamList, Params, MemberTree, Members, Classes, Is, IsParamList, AreParams, IsMember, AreMembers, IsProgram, perm_word, type_text, arg_text, param_list_text, params_text, member_text, members_text, program_text}
+use Rattle.perm_parse.specs.Grammar.{ParamList, Params, MemberTree, Members, Classes, Is, IsParamList, AreParams, IsMember, AreMembers, IsProgram, perm_word, type_text, arg_text, param_list_text, params_text, member_text, members_text, program_text, BeginsType}
 use Rattle.perm_parse.specs.Levels.{param_list_levels, params_levels, member_levels, members_levels, program_levels}
 use Rattle.perm_parse.specs.States.{TypeFor, ArgFor, ClassPart, MethodPart, ParamsPart, BodyPart, Outer, State}
 use Rattle.perm_parse.specs.Machine.{step_as, step_type, step_perm, opens_body}
 use Rattle.perm_parse.proofs.OneAnswer.Runs.{Runs, stop, go, via}
-use Rattle.perm_parse.proofs.OneAnswer.ArgumentRuns.{BeginsType, arg, type}
+use Rattle.perm_parse.proofs.OneAnswer.ArgumentRuns.{arg, type}
 use Rattle.perm_parse.proofs.OneAnswer.StatementRuns.{stmts, no-else-at}
 
 first-param : (part : MethodPart) (t : Token) (other : TokenKind) → BeginsType other → step_as (State.params_due part) t other ≡ step_type (TypeFor.to_param part ParamsPart.no_param_yet) t other

@@ -9,13 +9,13 @@ use Rattle.perm_tree.specs.declared.ast.UnaryOp.TheVariants as unary_op
 use Rattle.perm_tree.specs.declared.tokens.Token.{Token}
 use Rattle.perm_tree.specs.declared.tokens.TokenKind.{TokenKind}
 use Rattle.perm_tree.specs.declared.tokens.TokenKind.TheVariants as kind
-use Rattle.perm_parse.specs.Grammar.{TypeTree, ExprTree, ArgTree, Args, RecvTree, CallTree, TargetTree, RhsTree, BlockTree, StmtTree, Stmts, Is, IsVar, IsType, IsExpr, AreArgs, IsRecv, IsCall, IsTarget, IsRhs, IsBlock, IsStmt, AreStmts, perm_word, sign, type_text, expr_text, args_text, recv_text, call_text, target_text, rhs_text, block_text, stmt_text, stmts_text}
+use Rattle.perm_parse.specs.Grammar.{TypeTree, ExprTree, ArgTree, Args, RecvTree, CallTree, TargetTree, RhsTree, BlockTree, StmtTree, Stmts, Is, IsVar, IsType, IsExpr, AreArgs, IsRecv, IsCall, IsTarget, IsRhs, IsBlock, IsStmt, AreStmts, perm_word, sign, type_text, expr_text, args_text, recv_text, call_text, target_text, rhs_text, block_text, stmt_text, stmts_text, BeginsType}
 use Rattle.perm_parse.specs.Levels.{args_levels, call_levels, target_levels, rhs_levels, block_levels, stmt_levels, stmts_levels}
 use Rattle.perm_parse.specs.States.{Purpose, TypeFor, ArgFor, CallFor, CallPart, Lead, Outer, Open, Assigning, State, level_state, level_outer, level_open, level_assigning, level_call_for}
 use Rattle.perm_parse.specs.Machine.{step_as, step_type, state_if, enter, after_block, add_if, after_call, op_of, walk, note_level}
 use Rattle.perm_parse.proofs.OneAnswer.Runs.{Runs, stop, go, via}
 use Rattle.perm_parse.proofs.OneAnswer.ExpressionRuns.{op_of-sign}
-use Rattle.perm_parse.proofs.OneAnswer.ArgumentRuns.{Begins, BeginsType, expr, arg, args, type, go_var, from_same, same_at, same_at-expr}
+use Rattle.perm_parse.proofs.OneAnswer.ArgumentRuns.{Begins, expr, arg, args, type, go_var, from_same, same_at, same_at-expr}
 
 -- ---- what doesn't begin with `else`
 

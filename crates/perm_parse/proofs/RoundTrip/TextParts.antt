@@ -1,5 +1,5 @@
 -- Parts of a text, one after the other.
-use Rattle.std.proofs.Common.{◌≡◌, ℕ, List, [], ◌∷◌, ◌++◌, codes, refl, sym, ◌∙◌, ap, append_assoc, append-nil}
+use Rattle.std.proofs.Common.{◌≡◌, ℕ, List, [], ◌∷◌, ◌++◌, codes, append_assoc, append-nil}
 use Rattle.perm_tree.specs.Printer.Expressions.{parts_text}
 use Rattle.perm_tree.proofs.Printer.Texts.{parts_text-append}
 

@@ -4,7 +4,7 @@ use Rattle.std.proofs.lemmas.List.{map-append}
 use Rattle.perm_tree.specs.Places.{Listing}
 use Rattle.perm_tree.specs.Printer.Expressions.{parts_text}
 use Rattle.perm_tree.specs.Printer.Programs as whole
-use Rattle.perm_tree.specs.Printer.Programs.{Wording, wording, indent, name_text, block_parts, rhs_parts, stmt_parts, stmt_texts, call_parts, declared_text}
+use Rattle.perm_tree.specs.Printer.Programs.{wording, indent, name_text, block_parts, rhs_parts, stmt_parts, stmt_texts, call_parts, declared_text}
 use Rattle.perm_tree.proofs.Entries.{entries_of-at}
 use Rattle.perm_tree.specs.declared.tokens.TokenKind.TheVariants as kinds
 use Rattle.perm_lex.specs.Lexes.{Piece, pieces_text}

@@ -3,7 +3,7 @@ use Rattle.std.proofs.lemmas.List.{drop_all}
 use Rattle.perm_tree.specs.declared.tokens.Token.{Token}
 use Rattle.perm_parse.specs.Answers.{read_from}
 use Rattle.perm_parse.specs.Meaning.{classes_of}
-use Rattle.perm_parse.specs.ReadingMembers.{Gives}
+use Rattle.perm_parse.specs.MemberResults.{Gives}
 use Rattle.perm_parse.specs.States.{State}
 use Rattle.perm_parse.proofs.WellFormed.{gives-orderly}
 use Rattle.perm_parse.proofs.classes.read.Goals as goal

@@ -4,7 +4,7 @@ use Rattle.std.proofs.lemmas.Int.{to_z_pos}
 use Rattle.std.proofs.Common.{w64, pos}
 use Rattle.std.specs.Int.{cast_signed, cast_unsigned}
 use Rattle.perm_parse.specs.Meaning.{push_expr}
-use Rattle.perm_parse.specs.Reading.{OpensLevel}
+use Rattle.perm_parse.specs.ParserResults.{OpensLevel}
 use Rattle.perm_tree.specs.declared.tokens.TokenKind.TheVariants as kind
 use Rattle.perm_tree.specs.declared.ast.Expr.TheVariants as node
 use Rattle.perm_parse.specs.Grammar.{ExprTree}

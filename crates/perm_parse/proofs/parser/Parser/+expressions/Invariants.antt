@@ -1,5 +1,5 @@
 use Rattle.std.proofs.Common.{◌+◌, ◌<◌, length, ◌-◌, ◌*◌, Ok}
-use Rattle.perm_parse.specs.Reading.{ReadsExpr, IsClosed, Onward}
+use Rattle.perm_parse.specs.ParserResults.{ReadsExpr, IsClosed, Onward}
 use Rattle.perm_parse.specs.Parses.{deepest}
 use Rattle.perm_parse.proofs.parser.Parser.+expressions.Given as goal
 

@@ -1,6 +1,6 @@
 use Rattle.std.proofs.Common.{◌+◌, length, ◌-◌, ◌*◌, Ok}
 use Rattle.perm_tree.specs.Places.{AllBelow}
-use Rattle.perm_parse.specs.Reading.{ReadsStmts, Onward}
+use Rattle.perm_parse.specs.ParserResults.{ReadsStmts, Onward}
 use Rattle.perm_parse.specs.Parses.{deepest}
 use Rattle.perm_parse.proofs.parser.Parser.+statements.Given as goal
 

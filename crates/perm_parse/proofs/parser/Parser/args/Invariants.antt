@@ -1,6 +1,6 @@
 use Rattle.std.proofs.Common.{length, ◌-◌}
 use Rattle.perm_tree.specs.Places.{ArgsPlaced}
-use Rattle.perm_parse.specs.Reading.{ArgsPartRead, Onward}
+use Rattle.perm_parse.specs.ParserResults.{ArgsPartRead, Onward}
 use Rattle.perm_parse.proofs.parser.Parser.args.Given as goal
 
 abbrev pub invariant-arguments : goal.invariant-arguments

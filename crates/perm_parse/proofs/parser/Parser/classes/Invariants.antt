@@ -1,6 +1,6 @@
 use Rattle.std.proofs.Common.{length, ◌-◌}
-use Rattle.perm_parse.specs.Reading.{Onward}
-use Rattle.perm_parse.specs.ReadingMembers.{ClassesRead}
+use Rattle.perm_parse.specs.ParserResults.{Onward}
+use Rattle.perm_parse.specs.MemberResults.{ClassesRead}
 use Rattle.perm_parse.proofs.parser.Parser.classes.Given as goal
 
 abbrev pub invariant-classes : goal.invariant-classes

@@ -1,7 +1,7 @@
 use Rattle.std.proofs.Common.{◌≡◌, length, ◌-◌}
 use Rattle.perm_tree.specs.Places.{ClassPlaced}
-use Rattle.perm_parse.specs.Reading.{Onward}
-use Rattle.perm_parse.specs.ReadingMembers.{MembersPartRead}
+use Rattle.perm_parse.specs.ParserResults.{Onward}
+use Rattle.perm_parse.specs.MemberResults.{MembersPartRead}
 use Rattle.perm_parse.proofs.parser.Parser.members.Given as goal
 
 abbrev pub invariant-members : goal.invariant-members

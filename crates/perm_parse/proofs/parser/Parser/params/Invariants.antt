@@ -1,6 +1,6 @@
 use Rattle.std.proofs.Common.{length, ◌-◌}
-use Rattle.perm_parse.specs.Reading.{Onward}
-use Rattle.perm_parse.specs.ReadingMembers.{ParamsPartRead}
+use Rattle.perm_parse.specs.ParserResults.{Onward}
+use Rattle.perm_parse.specs.MemberResults.{ParamsPartRead}
 use Rattle.perm_parse.proofs.parser.Parser.params.Given as goal
 
 abbrev pub invariant-params : goal.invariant-params

@@ -1,5 +1,5 @@
 use Rattle.std.proofs.Common.{subst, Ok}
-use Rattle.perm_parse.specs.Reading.{TakesToken}
+use Rattle.perm_parse.specs.ParserResults.{TakesToken}
 use Rattle.perm_parse.proofs.Descent.Types.{reference-is}
 use Rattle.perm_parse.proofs.parser.Parser.reference.Goals as goal
 

@@ -15,7 +15,7 @@ use Rattle.perm_parse.specs.Grammar.{Is, perm_word, TypeTree, ArgTree, Stmts, Pa
 use Rattle.perm_parse.specs.States.{State, TypeFor, Outer, Open, ClassPart, MethodPart, BodyPart, level_type_for}
 use Rattle.perm_parse.specs.Machine.{after_named_type, end_method}
 use Rattle.perm_parse.specs.Meaning.{ident, type_of, arg_of, stmts_of, param_list_of, params_of, member_of, members_of, classes_of, span_over, meaning}
-use Rattle.perm_parse.specs.Reading.{Next, IsAhead, IsHere, Leads, IsRefusal, Refuses}
+use Rattle.perm_parse.specs.ParserResults.{Next, IsAhead, IsHere, Leads, IsRefusal, Refuses}
 use Rattle.perm_parse.specs.Answers.{parsed, read}
 
 -- ---- types with names

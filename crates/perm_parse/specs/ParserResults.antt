@@ -19,7 +19,7 @@ use Rattle.perm_tree.specs.declared.ast.BinaryOp.{BinaryOp}
 use Rattle.perm_tree.specs.declared.ast.Call.{Call}
 use Rattle.perm_tree.specs.declared.ast.Expr.{Expr}
 use Rattle.perm_tree.specs.declared.ast.Ident.{Ident}
-use Rattle.perm_parse.specs.Grammar.{Is, IsVar, TypeTree, ExprTree, ArgTree, Args, RhsTree, StmtTree, Stmts, level, CallTree, RecvTree, BlockTree}
+use Rattle.perm_parse.specs.Grammar.{Is, IsVar, TypeTree, ExprTree, ArgTree, Args, RhsTree, StmtTree, Stmts, level, CallTree, RecvTree, BlockTree, BeginsType}
 use Rattle.perm_parse.specs.States.{State, Pending, Purpose, ArgFor, ArgsPart, CallPart, TypeFor, Assigning, Outer, Open, Room, level_purpose, level_pending, level_arg_for, level_call_part, level_type_for, level_assigning, level_open, level_outer, CallFor, level_call_for, Lead, Wanted, level_state}
 use Rattle.perm_parse.specs.Machine.{op_of, push_arg, close_call, after_type, after_value, gives_receiver, enter, after_block, finish}
 use Rattle.perm_parse.specs.Meaning.{number_of, ident, var, push_expr, expr_of, arg_of, arg_list_of, args_of, type_of, type_first, push_mention, rhs_of, head_last, stmt_of, push_stmt, simple, call_of, stmts_of, block_of, block_last}
@@ -239,16 +239,6 @@ pub record TypeRead (depth : ℕ) (old new : Parser) (t : Ty) : Type 0 where
 abbrev pub ReadsType : ℕ → Parser → Parser → Result Ty ParseError → Type 0
 ReadsType depth old new (Ok t) = TypeRead depth old new t
 ReadsType depth old new (Err e) = (k : TypeFor) → level_type_for k ≡ depth → Refuses old (State.type_due k) e
-
--- a word that begins a type
-abbrev pub BeginsType : TokenKind → Type 0
-BeginsType kind.Long = Unit {0}
-BeginsType kind.Bool = Unit {0}
-BeginsType kind.Isolated = Unit {0}
-BeginsType kind.Immutable = Unit {0}
-BeginsType kind.Readable = Unit {0}
-BeginsType kind.Writable = Unit {0}
-BeginsType _ = ⊥
 
 -- a type comes next
 abbrev pub IsNextType : Parser → Type 0
