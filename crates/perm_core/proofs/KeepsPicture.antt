@@ -7,6 +7,7 @@ pub mod NewNames
 pub mod ValuedLists
 pub mod RightCode
 pub mod HiddenVariables
+pub mod LiveLists
 pub mod Relabellings
 pub mod CarriedValues
 pub mod CallEnds
