@@ -8,6 +8,9 @@ pub mod ValuedLists
 pub mod RightCode
 pub mod HiddenVariables
 pub mod LiveLists
+pub mod LiveCode
+pub mod LiveTurns
+pub mod LiveTrees
 pub mod Relabellings
 pub mod CarriedValues
 pub mod CallEnds

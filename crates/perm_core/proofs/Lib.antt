@@ -6,11 +6,11 @@ pub mod HeldEvents
 pub mod Holes
 mod Interleavings
 pub mod PictureTest
-mod LeadsTo
+pub mod LeadsTo
 pub mod LeafOperations
 mod NamesToCome
 mod NextEvents
-mod OpeningPicture
+pub mod OpeningPicture
 pub mod PieceEvents
 mod Pictures
 pub mod RegionPrograms

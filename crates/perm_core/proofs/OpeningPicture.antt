@@ -42,7 +42,7 @@ settled (While at e own body rest) = refl
 settled (Par at own1 a own2 b rest) = refl
 settled (Recover at x own hides body rest) = refl
 
-derived : (u : UnitCode) (rs : List Routine) (m : ℕ) (r : Routine) → HaveDerivations u rs → slice_get rs m ≡ Some r → HasDerivation u r
+pub derived : (u : UnitCode) (rs : List Routine) (m : ℕ) (r : Routine) → HaveDerivations u rs → slice_get rs m ≡ Some r → HasDerivation u r
 derived u [] m r all e = none_some e
 derived u (q ∷ rs) zero r all e = subst (λ z. HasDerivation u z) (some_inj e) all.0
 derived u (q ∷ rs) (suc m) r all e = derived u rs m r all.1 e

@@ -36,10 +36,10 @@ writes-touched (StoreItem y i v) z e = e
 writes-touched (Invoke into tie consumed y routine args) z e = e
 writes-touched (Print t) y e = e
 
-block-touched : (own : List ℕ) (a : Code) → IsWithin (written a) (touched a) → IsWithin (minus (written a) (those own)) (plus (touched a) (those own))
+pub block-touched : (own : List ℕ) (a : Code) → IsWithin (written a) (touched a) → IsWithin (minus (written a) (those own)) (plus (touched a) (those own))
 block-touched own a is x e = or_left (touched a x) (those own x) (is x (minus-within (written a) (those own) x e))
 
-written-touched : (a : Code) → IsWithin (written a) (touched a)
+pub written-touched : (a : Code) → IsWithin (written a) (touched a)
 written-touched End = same-within none
 written-touched (Give at w y) = same-within (plus (just w) (just y))
 written-touched (Return at a) = same-within (argument_consumes a)

@@ -62,7 +62,7 @@ clear_all-cases (y ∷ own) vs x a has =
     let now = clear-cases vs y x a later.1 in
     (ap (λ t. t || list_any (nat_eq x) own) (not-equal x y now.0) ∙ later.0, now.1)
 
-clear_all-length : (own : List ℕ) (vs : List Held) → length (clear_all tagged vs own) ≡ length vs
+pub clear_all-length : (own : List ℕ) (vs : List Held) → length (clear_all tagged vs own) ≡ length vs
 clear_all-length [] vs = refl
 clear_all-length (y ∷ own) vs = clear_all-length own (clear tagged vs y) ∙ set-length vs y (cleared_slot tagged (slice_get vs y))
 

@@ -33,7 +33,7 @@ use Rattle.perm_core.proofs.KeepsPicture.TreeEvents.{EventAt, refused_leaf, told
 use Rattle.perm_core.proofs.KeepsPicture.RightCode.{given-one, top-right, kept-within, receives-within}
 
 -- ---------- lists that no variable of a set is in ----------
-none-all : (U : Vars) (xs : List ℕ) → ((x : ℕ) → those xs x ≡ true → U x ≡ false) → has_none U xs ≡ true
+pub none-all : (U : Vars) (xs : List ℕ) → ((x : ℕ) → those xs x ≡ true → U x ≡ false) → has_none U xs ≡ true
 none-all U [] all = refl
 none-all U (x ∷ xs) all = by_test (U x) refl (none-all U xs (λ y e. all y (or_right (nat_eq y x) (those xs y) e)))
   where
@@ -44,7 +44,7 @@ none-all U (x ∷ xs) all = by_test (U x) refl (none-all U xs (λ y e. all y (or
     by_test true q later = absurd (let no : true ≡ false = sym q ∙ here in let z : ⊥ = cc no in z)
     by_test false q later = ap (λ t. not (t || list_any U xs)) q ∙ later
 
-all-none : (U : Vars) (xs : List ℕ) (x : ℕ) → has_none U xs ≡ true → those xs x ≡ true → U x ≡ false
+pub all-none : (U : Vars) (xs : List ℕ) (x : ℕ) → has_none U xs ≡ true → those xs x ≡ true → U x ≡ false
 all-none U [] x e i = absurd (let no : ⊥ = cc i in no)
 all-none U (y ∷ xs) x e i = pick (or_cases (nat_eq x y) (those xs x) i) (split (U y) (list_any U xs) e) (λ q r. all-none U xs x q r)
   where
@@ -64,7 +64,7 @@ none-within U V xs less all = none-all V xs (λ x i. not-in (V x) (less x) (all 
     not-in true f e = absurd (let no : true ≡ false = sym (f refl) ∙ e in let z : ⊥ = cc no in z)
     not-in false f e = refl
 
-neither : (a b : Bool) → a ≡ false → b ≡ false → (a || b) ≡ false
+pub neither : (a b : Bool) → a ≡ false → b ≡ false → (a || b) ≡ false
 neither a b e f = ap (λ t. t || b) e ∙ f
 
 nothing-below : (n : ℕ) (S : Vars) → ((x : ℕ) → S x ≡ false) → some_below n S ≡ false

@@ -172,7 +172,7 @@ abbrev pub AllValues : List Held → Type 0
 AllValues [] = Unit {0}
 AllValues (v ∷ vs) = ((a : Value Name) × (v ≡ Some a)) × AllValues vs
 
-minus-both : (G C D : Vars) (y : ℕ) → minus G (plus C D) y ≡ true → (minus G C y ≡ true) × (not (D y) ≡ true)
+pub minus-both : (G C D : Vars) (y : ℕ) → minus G (plus C D) y ≡ true → (minus G C y ≡ true) × (not (D y) ≡ true)
 minus-both G C D y e = let p = both (G y) (not (C y || D y)) e in let q = split (C y) (D y) p.1 in (together (G y) (not (C y)) p.0 q.0, q.1)
   where
     split : (a b : Bool) → not (a || b) ≡ true → (not a ≡ true) × (not b ≡ true)
