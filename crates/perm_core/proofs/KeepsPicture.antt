@@ -11,6 +11,7 @@ pub mod LiveLists
 pub mod LiveCode
 pub mod LiveTurns
 pub mod LiveTrees
+pub mod Order
 pub mod Relabellings
 pub mod CarriedValues
 pub mod CallEnds

@@ -181,13 +181,15 @@ module _ (u : UnitCode) (limit : ℕ) (input : List ℤ) (turns : ℕ) (r : Rout
       record {
         variables = together _ true variables refl;
         objects = an-object;
-        goes = (goes.0, inr goes.1);
-        ends = together (is_settled r.code []) (ends ByReturn r.code) (settled r.code) routine.returns;
-        right = right;
-        hidden = refl;
-        stand = refl;
-        new = new-names;
-        paths = tt;
+        orderly = record {
+          goes = (goes.0, inr goes.1);
+          ends = together (is_settled r.code []) (ends ByReturn r.code) (settled r.code) routine.returns;
+          right = right;
+          hidden = refl;
+          stand = refl;
+          new = new-names;
+          paths = tt;
+        };
       }
 
 pub opens_with_picture : (u : UnitCode) (limit : ℕ) (input : List ℤ) (turns : ℕ) → OpensWithPicture u limit input turns

@@ -15,7 +15,7 @@ use Rattle.perm_core.specs.WordCore as word_core
 use Rattle.perm_meaning.specs.Literals.{NumbersFit, UnitFits}
 use Rattle.perm_meaning.specs.Shows.{Bases, Grows, IsShown, IsShownBy}
 use Rattle.perm_core.specs.Whole.{IsWhole}
-use Rattle.perm_core.specs.Picture.{IsPicture}
+use Rattle.perm_core.specs.Picture.{IsOrderly, IsPicture}
 use Rattle.perm_core.specs.Regions.{Labels}
 use Rattle.perm_core.specs.NextPicture.{first_picture}
 use Rattle.perm_core.specs.Bag.{Picks, IsIn, IsDistinct}
@@ -43,6 +43,10 @@ module _ (u : UnitCode) (limit : ℕ) where
   -- the opening has a picture
   abbrev pub OpensWithPicture : List ℤ → ℕ → Type 0
   OpensWithPicture input turns = (r : Routine) → IsChecked u → Opens input r → IsPicture u first_picture (opening_state u input turns r)
+
+  -- each event leads from a state with a picture to an orderly one
+  abbrev pub KeepsOrder : Type 0
+  KeepsOrder = (labels : Labels) (s t : State) (w : Way) → IsChecked u → IsPicture u labels s → step u limit s w ≡ Some t → IsOrderly u t
 
   -- a state with a picture has no conflict
   abbrev pub HasNoConflict : Type 0

@@ -328,10 +328,8 @@ PathsFit (Fork b p l r) =
     (k : ℕ) × (b.own.mark.pars ≡ suc k) × (path_of l ≡ (k, OnLeft) ∷ b.own.mark.path) × (path_of r ≡ (k, OnRight) ∷ b.own.mark.path) × PathsFit l × PathsFit r
 
 -- ---------- the picture ----------
--- the labels are a picture of the state: its variables and its objects lead only where their permissions allow, its code goes on and ends, what that says of calls is right and it is rightly scoped, no hidden variable has a value, each side stands in the method of its parent, and no object has a name that is still to be given
-pub record IsPicture (u : UnitCode) (labels : Labels) (s : State) : Type 0 where
-  pub variables : tree_fits u labels s.heap.objects (λ w. w) (Base Here 0) s.task ≡ true
-  pub objects : (n : Name) → object_fits u labels s.heap.objects n (s.heap.objects n) ≡ true
+-- what a picture asks besides of a state: its code goes on and ends, what that says of calls is right and it is rightly scoped, no hidden variable has a value, each side stands in the method of its parent, and no object has a name that is still to be given
+pub record IsOrderly (u : UnitCode) (s : State) : Type 0 where
   pub goes : (H : Vars) × TreeGoes u [] s.task H
   pub ends : tree_ends ByReturn s.task ≡ true
   pub right : tree_right u s.task ≡ true
@@ -339,3 +337,9 @@ pub record IsPicture (u : UnitCode) (labels : Labels) (s : State) : Type 0 where
   pub stand : sides_stand s.task ≡ true
   pub new : (n : Name) → MayBeGiven s.task n → s.heap.objects n ≡ None
   pub paths : PathsFit s.task
+
+-- the labels are a picture of the state: its variables and its objects lead only where their permissions allow, and it is orderly
+pub record IsPicture (u : UnitCode) (labels : Labels) (s : State) : Type 0 where
+  pub variables : tree_fits u labels s.heap.objects (λ w. w) (Base Here 0) s.task ≡ true
+  pub objects : (n : Name) → object_fits u labels s.heap.objects n (s.heap.objects n) ≡ true
+  pub orderly : IsOrderly u s

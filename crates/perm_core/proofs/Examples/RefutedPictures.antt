@@ -248,13 +248,15 @@ gone-picture : IsPicture u gone_labels gone
 gone-picture = record {
   variables = refl;
   objects = λ n. gone-objects n.by n.count;
-  goes = (_, inr (_, (refl, refl), (refl, refl)));
-  ends = refl;
-  right = refl;
-  hidden = refl;
-  stand = refl;
-  new = apart;
-  paths = tt;
+  orderly = record {
+    goes = (_, inr (_, (refl, refl), (refl, refl)));
+    ends = refl;
+    right = refl;
+    hidden = refl;
+    stand = refl;
+    new = apart;
+    paths = tt;
+  };
 }
 
 -- all that stands in the zone that ends is loose after it
@@ -268,13 +270,15 @@ gone-kept : IsPicture u (next_picture u 100 gone_labels gone Here) (after gone)
 gone-kept = record {
   variables = refl;
   objects = λ n. gone-next n.by n.count;
-  goes = (_, inr (refl, refl));
-  ends = refl;
-  right = refl;
-  hidden = refl;
-  stand = refl;
-  new = apart;
-  paths = tt;
+  orderly = record {
+    goes = (_, inr (refl, refl));
+    ends = refl;
+    right = refl;
+    hidden = refl;
+    stand = refl;
+    new = apart;
+    paths = tt;
+  };
 }
 
 -- ---------- units whose code isn't whole ----------
