@@ -12,6 +12,7 @@ pub mod LiveCode
 pub mod LiveTurns
 pub mod LiveTrees
 pub mod Order
+pub mod OtherHeaps
 pub mod Relabellings
 pub mod CarriedValues
 pub mod CallEnds
