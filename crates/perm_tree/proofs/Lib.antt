@@ -1,4 +1,5 @@
 pub mod AcceptedNames
+pub mod BlockRows
 pub mod Builder
 pub mod ClassMaps
 pub mod CodeLaws
@@ -8,6 +9,7 @@ pub mod Lows
 pub mod MentionLaws
 pub mod MethodMarks
 pub mod Nested
+pub mod Occurrences
 pub mod ParPrograms
 pub mod Passing
 pub mod Printer

@@ -1,3 +1,4 @@
+pub mod Blocks
 pub mod Code
 pub mod CodeOf
 pub mod Entries
@@ -6,6 +7,7 @@ pub mod Lows
 pub mod Mentions
 pub mod Names
 pub mod Nesting
+pub mod Operands
 pub mod Places
 pub mod Printer
 pub mod Resolves

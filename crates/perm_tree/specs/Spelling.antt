@@ -1,6 +1,10 @@
 -- Words that the rules speak of, by their bytes.
 use Rattle.std.specs.Prelude.{ℕ, Bool, List, [], ◌∷◌, get_or, bytes_eq}
 
+-- `this`
+abbrev pub this_word : List ℕ
+this_word = 116 ∷ 104 ∷ 105 ∷ 115 ∷ []
+
 -- `Main`
 abbrev pub main_word : List ℕ
 main_word = 77 ∷ 97 ∷ 105 ∷ 110 ∷ []

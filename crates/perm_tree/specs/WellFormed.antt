@@ -1,5 +1,5 @@
 -- What every program keeps.
-use Rattle.std.specs.Prelude.{◌≢◌, ℕ, All, AllPairs, Contains, List, [], ◌∷◌, ◌++◌, length, map, flat_map}
+use Rattle.std.specs.Prelude.{◌≡◌, ◌≢◌, ℕ, All, AllPairs, Contains, List, [], ◌∷◌, ◌++◌, length, map, flat_map}
 use Rattle.perm_tree.specs.declared.ast.FieldDecl.{FieldDecl}
 use Rattle.perm_tree.specs.declared.ast.Shape.TheVariants.{Class}
 use Rattle.perm_tree.specs.declared.ast.Ty.{Ty}
@@ -9,6 +9,7 @@ use Rattle.perm_tree.specs.declared.ast.Method.{Method}
 use Rattle.perm_tree.specs.declared.ast.ClassDecl.{ClassDecl}
 use Rattle.perm_tree.specs.Places.{AllBelow, IsPlaced, Listing}
 use Rattle.perm_tree.specs.Scopes.{declared_by}
+use Rattle.perm_tree.specs.Spelling.{this_word}
 use Rattle.perm_tree.specs.TextOrder.{AreRising, mark_names, marks_of}
 
 -- the numbers of the names of a program's classes and fields, and of the names that stand in its methods
@@ -46,6 +47,11 @@ stmt_classes s = decl_classes (declared_by s.kind)
 -- the classes of all types of a program
 abbrev pub type_classes : Listing → List ℕ
 type_classes p = flat_map member_classes p.classes ++ flat_map stmt_classes p.stmts
+
+-- the first name, where there is one, is the word `this`
+abbrev pub HasThisFirst : List (List ℕ) → Type 0
+HasThisFirst [] = Unit {0}
+HasThisFirst (word ∷ words) = word ≡ this_word
 
 -- its names are distinct words, each name in it is one of them, the classes of its types are mentioned, and its methods are in text order
 pub record IsOrderly (p : Listing) : Type 0 where
