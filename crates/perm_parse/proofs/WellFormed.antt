@@ -3,6 +3,7 @@ pub mod ClassMentions
 pub mod DeclaredNames
 pub mod DistinctWords
 pub mod ExpressionMarks
+pub mod FirstName
 pub mod ProgramMarks
 use Rattle.std.proofs.Common.{◌≡◌, ℕ, ◌<◌, ◌≤◌, List, [], ◌++◌, length, Ok, subst}
 use Rattle.std.specs.Prelude.{All, AllPairs, map, flat_map}
@@ -16,6 +17,7 @@ use Rattle.perm_parse.specs.Meaning.{meaning}
 use Rattle.perm_parse.specs.Parses.{Parses}
 use Rattle.perm_parse.specs.MemberResults.{Gives}
 use Rattle.perm_parse.proofs.WellFormed.DeclaredNames.{meaning-classes, meaning-fields}
+use Rattle.perm_parse.proofs.WellFormed.FirstName.{meaning-first}
 use Rattle.perm_parse.proofs.WellFormed.ExpressionMarks.{AreInOrder, in-order}
 use Rattle.perm_parse.proofs.WellFormed.ProgramMarks.{meaning-marked, meaning-rising}
 use Rattle.perm_parse.proofs.WellFormed.ClassMentions.{meaning-mentioned}
@@ -30,6 +32,7 @@ meaning-orderly text tokens tree order spells =
     let bodies = flat_map mark_names (marks_of p) in
     record {
       words = meaning-words text tree;
+      first = meaning-first text tree;
       named = all_append (length p.names) (map (λ c. c.name.name) p.classes) (fields ++ bodies) (meaning-classes text tree) (all_append (length p.names) fields bodies (meaning-fields text tree) (meaning-marked text tree));
       mentioned = meaning-mentioned text tree;
       ordered = meaning-rising text tokens tree order spells;

@@ -117,6 +117,7 @@ module _ (p : Listing) where
   pub resolved-orderly : IsOrderly p → IsOrderly (resolved p)
   resolved-orderly orderly = record {
     words = orderly.words;
+    first = orderly.first;
     named = subst (AllBelow (length p.names)) (sym (numbers-resolved p)) orderly.named;
     mentioned =
         subst (λ ms. All (Contains ms) (type_classes (resolved p))) (sym (mention-numbers p.mentions))

@@ -53,9 +53,10 @@ abbrev pub HasThisFirst : List (List ℕ) → Type 0
 HasThisFirst [] = Unit {0}
 HasThisFirst (word ∷ words) = word ≡ this_word
 
--- its names are distinct words, each name in it is one of them, the classes of its types are mentioned, and its methods are in text order
+-- its names are distinct words, of which the first is `this`, each name in it is one of them, the classes of its types are mentioned, and its methods are in text order
 pub record IsOrderly (p : Listing) : Type 0 where
   pub words : AllPairs (λ v w. v ≢ w) p.names
+  pub first : HasThisFirst p.names
   pub named : AllBelow (length p.names) (name_numbers p)
   pub mentioned : All (Contains (mention_numbers p)) (type_classes p)
   pub ordered : AreRising (marks_of p)
