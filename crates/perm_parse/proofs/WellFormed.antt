@@ -5,6 +5,8 @@ pub mod DistinctWords
 pub mod ExpressionMarks
 pub mod FirstName
 pub mod ProgramMarks
+pub mod SameStatements
+pub mod StatementsOnce
 use Rattle.std.proofs.Common.{◌≡◌, ℕ, ◌<◌, ◌≤◌, List, [], ◌++◌, length, Ok, subst}
 use Rattle.std.specs.Prelude.{All, AllPairs, map, flat_map}
 use Rattle.perm_tree.specs.Places.{Listing}
@@ -23,6 +25,7 @@ use Rattle.perm_parse.proofs.WellFormed.ProgramMarks.{meaning-marked, meaning-ri
 use Rattle.perm_parse.proofs.WellFormed.ClassMentions.{meaning-mentioned}
 use Rattle.perm_parse.proofs.OneAnswer.{gives-program}
 use Rattle.perm_parse.proofs.WellFormed.DistinctWords.{meaning-words}
+use Rattle.perm_parse.proofs.WellFormed.StatementsOnce.{meaning-once}
 
 -- the program that a tree means, where its tokens are in order
 meaning-orderly : (text : List ℕ) (tokens : List Token) (tree : Classes) → AreInOrder 0 tokens → program_text tree [] ≡ tokens → IsOrderly (meaning text tree)
@@ -36,6 +39,7 @@ meaning-orderly text tokens tree order spells =
       named = all_append (length p.names) (map (λ c. c.name.name) p.classes) (fields ++ bodies) (meaning-classes text tree) (all_append (length p.names) fields bodies (meaning-fields text tree) (meaning-marked text tree));
       mentioned = meaning-mentioned text tree;
       ordered = meaning-rising text tokens tree order spells;
+      once = meaning-once text tree;
     }
 
 parses-orderly : (text : List ℕ) (tokens : List Token) (p : Listing) → AreInOrder 0 tokens → Parses text tokens p → IsOrderly p

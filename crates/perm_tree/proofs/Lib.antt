@@ -15,6 +15,7 @@ pub mod Passing
 pub mod Printer
 pub mod Programs
 pub mod Pushes
+pub mod ResolvedBlocks
 pub mod ResolvedLaws
 pub mod ResolvedOrder
 pub mod ResolvedTypes

@@ -39,7 +39,8 @@ map-same f g xs same = ap (λ h. map h xs) (λ i x. same x i)
 pub map-unseen : {A B : Type 0} (f : A → B) (g : A → A) (xs : List A) → ((x : A) → f (g x) ≡ f x) → map f (map g xs) ≡ map f xs
 map-unseen f g xs same = map-twice f g xs ∙ map-same (λ x. f (g x)) f xs same
 
-flat_map-unseen : {A B : Type 0} (f : A → List B) (g : A → A) (xs : List A) → ((x : A) → f (g x) ≡ f x) → flat_map f (map g xs) ≡ flat_map f xs
+-- so in lists
+pub flat_map-unseen : {A B : Type 0} (f : A → List B) (g : A → A) (xs : List A) → ((x : A) → f (g x) ≡ f x) → flat_map f (map g xs) ≡ flat_map f xs
 flat_map-unseen f g xs same = flat_map-map f g xs ∙ ap (λ h. flat_map h xs) (λ i x. same x i)
 
 option_map-cond : {A : Type 0} (g : A → A) (x : A) (b : Bool) (o : Option A) → cond b (Some (g x)) (option_map g o) ≡ option_map g (cond b (Some x) o)

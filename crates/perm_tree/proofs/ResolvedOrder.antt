@@ -61,7 +61,7 @@ module _ (p : Listing) where
       ∙ (λ j. names d.name ∷ params_marks d.params (block_marks (stmts-marks j) d.body.stmts back))
 
   -- the methods of the resolved program are those of the program, resolved
-  methods-resolved : methods_of (resolved p) ≡ map (renamed_method (class_place p)) (methods_of p)
+  pub methods-resolved : methods_of (resolved p) ≡ map (renamed_method (class_place p)) (methods_of p)
   methods-resolved = flat_map-changed (λ c. c.methods) (renamed_class (class_place p)) (renamed_method (class_place p)) p.classes (λ c. refl)
 
   methods-marks : (ds : List Method) → map (method_marks p.exprs (map (renamed_stmt (class_place p)) p.stmts)) (map (renamed_method (class_place p)) ds) ≡ map (method_marks p.exprs p.stmts) ds
