@@ -13,6 +13,7 @@ pub mod LiveTurns
 pub mod LiveTrees
 pub mod Order
 pub mod OtherHeaps
+pub mod PlainTurns
 pub mod Relabellings
 pub mod CarriedValues
 pub mod CallEnds
