@@ -14,6 +14,7 @@ pub mod LiveTrees
 pub mod Order
 pub mod OtherHeaps
 pub mod PlainTurns
+pub mod Arguments
 pub mod Relabellings
 pub mod CarriedValues
 pub mod CallEnds

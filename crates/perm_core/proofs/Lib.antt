@@ -1,6 +1,6 @@
 pub mod Bags
 pub mod Conflicts
-mod Evaluation
+pub mod Evaluation
 pub mod FewEvents
 pub mod HeldEvents
 pub mod Holes
