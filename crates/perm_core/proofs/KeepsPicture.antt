@@ -15,6 +15,7 @@ pub mod Order
 pub mod OtherHeaps
 pub mod PlainTurns
 pub mod Arguments
+pub mod ParTurns
 pub mod Relabellings
 pub mod CarriedValues
 pub mod CallEnds

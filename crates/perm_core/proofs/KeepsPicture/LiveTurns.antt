@@ -307,7 +307,7 @@ module _ (u : UnitCode) where
           not_own true q live = absurd (let no : true ≡ false = sym live ∙ all-none (valued vs) own x none_own q in let z : ⊥ = cc no in z)
           not_own false q live = refl
 
-  below-less : (n x : ℕ) → x < n → below n x ≡ true
+  pub below-less : (n x : ℕ) → x < n → below n x ≡ true
   below-less zero x less = absurd (omega (arith, less))
   below-less (suc n) zero less = refl
   below-less (suc n) (suc x) less = below-less n x (omega (arith, less))

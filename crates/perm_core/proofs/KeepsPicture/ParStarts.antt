@@ -73,13 +73,13 @@ goes-in Readable z y e e' r n (alone y' w d) k = absurd (d refl)
 -- ---------- the start ----------
 module _ (u : UnitCode) (labels : Labels) (h : Objects Name) (w l r : Way) (zp : Zone) (k : ℕ) (c : Context) (a b : Vars)
     (apart-l : same_way l w ≡ false) (apart-r : same_way r w ≡ false) (one_side : (x : ℕ) (s : Shape) → type_of c x ≡ Some (Ref Isolated s) → a x ≡ true → b x ≡ true → ⊥) where
-  abbrev to_l : Renamings
+  abbrev pub to_l : Renamings
   to_l = handed u labels w k l 0 (isolated_among u labels c a)
 
-  abbrev to_r : Renamings
+  abbrev pub to_r : Renamings
   to_r = handed u labels w k r 0 (isolated_among u labels c b)
 
-  abbrev ρ : Region → Region
+  abbrev pub ρ : Region → Region
   ρ x = moved (handed u labels w k r 0 (isolated_among u labels c b)) (moved (handed u labels w k l 0 (isolated_among u labels c a)) x)
 
   pub good : Good ρ
@@ -88,7 +88,7 @@ module _ (u : UnitCode) (labels : Labels) (h : Objects Name) (w l r : Way) (zp :
   off-way : (v v' : Way) (i i' x x' : ℕ) → same_way v v' ≡ false → same_region (OfVariable v i x) (OfVariable v' i' x') ≡ false
   off-way v v' i i' x x' e = ap (λ t. t && (nat_eq i i' && nat_eq x x')) e
 
-  stays-put : (q : Region) → ((x : ℕ) → same_region q (OfVariable w k x) ≡ false) → ρ q ≡ q
+  pub stays-put : (q : Region) → ((x : ℕ) → same_region q (OfVariable w k x) ≡ false) → ρ q ≡ q
   stays-put q e = ap (λ q. moved to_r q) (handed-other u labels w k l 0 (isolated_among u labels c a) q e) ∙ handed-other u labels w k r 0 (isolated_among u labels c b) q e
 
   pub own-stays : (y : Zone) → ρ (OwnOf y) ≡ OwnOf y
@@ -112,12 +112,12 @@ module _ (u : UnitCode) (labels : Labels) (h : Objects Name) (w l r : Way) (zp :
       not-left false q = q
 
   -- an isolated variable that stands in neither block
-  keeps : (x : ℕ) → a x ≡ false → b x ≡ false → ρ (OfVariable w k x) ≡ OfVariable w k x
+  pub keeps : (x : ℕ) → a x ≡ false → b x ≡ false → ρ (OfVariable w k x) ≡ OfVariable w k x
   keeps x p q =
       ap (λ q. moved to_r q) (handed-off u labels w k l 0 (isolated_among u labels c a) x (among-only u labels c a x p))
       ∙ handed-off u labels w k r 0 (isolated_among u labels c b) x (among-only u labels c b x q)
 
-  abbrev after : Labels
+  abbrev pub after : Labels
   after n = ρ (labels n)
 
   -- a side's variables: those of a set, each of which may go to the side's zone

@@ -59,7 +59,7 @@ module _ (u : UnitCode) (labels : Labels) (h : Objects Name) where
   or-right true b e = refl
   or-right false b e = e
 
-  whole : (w : Way) (z : Zone) (b : Branch) → variables_fit u labels h (top_zone w z b.stack) w (calls b.stack) 0 (context_of u b.own.routine).vars b.own.vars ≡ true → stack_fits u labels h w z b.own.routine b.stack ≡ true → branch_fits u labels h w z b ≡ true
+  pub whole : (w : Way) (z : Zone) (b : Branch) → variables_fit u labels h (top_zone w z b.stack) w (calls b.stack) 0 (context_of u b.own.routine).vars b.own.vars ≡ true → stack_fits u labels h w z b.own.routine b.stack ≡ true → branch_fits u labels h w z b ≡ true
   whole w z b vars stack = or-right (has_end u labels h b.close) _ (together (variables_fit u labels h (top_zone w z b.stack) w (calls b.stack) 0 (context_of u b.own.routine).vars b.own.vars) (stack_fits u labels h w z b.own.routine b.stack) vars stack)
 
   pub settled-fits : (w : Way) (z : Zone) (b : Branch) (vs : List Held) (c : Code) (st : List (Frame Held)) → variables_fit u labels h (top_zone w z st) w (calls st) 0 (context_of u b.own.routine).vars vs ≡ true → stack_fits u labels h w z b.own.routine st ≡ true
