@@ -1,8 +1,9 @@
 -- Resolving leaves the blocks of a program.
 use Rattle.std.proofs.Common.{◌≡◌, ◌≢◌, ◌≤◌, List, [], ◌∷◌, ◌++◌, refl, sym, ◌∙◌, ap, subst, arith}
-use Rattle.std.specs.Prelude.{AllPairs, Contains, map}
+use Rattle.std.specs.Prelude.{All, AllPairs, Contains, map}
 use Rattle.std.proofs.lemmas.List.{length-map}
-use Rattle.perm_tree.specs.Blocks.{kind_blocks, stmt_blocks, blocks_of, block_places, HasStatementsOnce}
+use Rattle.perm_tree.specs.Blocks.{kind_blocks, stmt_blocks, blocks_of, block_places, blocks_depth, stmt_depth, stmt_depths, HasShallowBlocks, HasStatementsOnce}
+use Rattle.perm_tree.specs.Entries.{entries_from}
 use Rattle.perm_tree.specs.Lookup.{class_place}
 use Rattle.perm_tree.specs.Places.{Listing}
 use Rattle.perm_tree.specs.Resolves.{renamed_kind, renamed_method, renamed_stmt, resolved}
@@ -12,6 +13,11 @@ use Rattle.perm_tree.specs.declared.ast.StmtKind.{StmtKind}
 use Rattle.perm_tree.specs.declared.ast.StmtKind.TheVariants.{Declare, Assign, SetField, SetItem, Call, Print, If, While, Par}
 use Rattle.perm_tree.proofs.ResolvedLaws.{flat_map-unseen, map-unseen}
 use Rattle.perm_tree.proofs.ResolvedOrder.{methods-resolved}
+
+-- where a change of the elements isn't seen by what makes the entries, these stay
+entries-unseen : {X A : Type 0} (make : List A → X → A) (g : X → X) (before : List A) (xs : List X) → ((es : List A) (x : X) → make es (g x) ≡ make es x) → entries_from make before (map g xs) ≡ entries_from make before xs
+entries-unseen make g before [] same = refl
+entries-unseen make g before (x ∷ xs) same = ap (λ e. entries_from make (before ++ e ∷ []) (map g xs)) (same before x) ∙ entries-unseen make g (before ++ make before x ∷ []) xs same
 
 module _ (p : Listing) where
   -- a resolved statement has the same blocks
@@ -42,3 +48,10 @@ module _ (p : Listing) where
     held = λ at within. subst (λ bs. Contains (block_places bs) at) (sym blocks-resolved) (once.held at (omega (arith, length-map p.stmts (renamed_stmt (class_place p)))));
     apart = subst (λ bs. AllPairs (λ i j. i ≢ j) (block_places bs)) (sym blocks-resolved) once.apart;
   }
+
+  -- blocks nest in it as deep as before
+  depths-resolved : stmt_depths (resolved p).stmts ≡ stmt_depths p.stmts
+  depths-resolved = entries-unseen stmt_depth (renamed_stmt (class_place p)) [] p.stmts (λ depths s. ap (blocks_depth depths) (kind-blocks s.kind))
+
+  pub resolved-shallow : HasShallowBlocks p.stmts → HasShallowBlocks (resolved p).stmts
+  resolved-shallow shallow = subst (All (λ n. n ≤ 98)) (sym depths-resolved) shallow

@@ -21,7 +21,7 @@ use Rattle.perm_tree.specs.TextOrder.{AreRising}
 use Rattle.perm_tree.specs.UnitTables.{Tables}
 use Rattle.perm_tree.specs.WellFormed.{ty_classes, decl_classes, method_classes, member_classes, stmt_classes, type_classes, mention_numbers, IsOrderly, IsWellFormed}
 use Rattle.perm_tree.proofs.AcceptedNames.{names_refusal-accepted, names_refusal-unmentioned}
-use Rattle.perm_tree.proofs.ResolvedBlocks.{resolved-once}
+use Rattle.perm_tree.proofs.ResolvedBlocks.{resolved-once, resolved-shallow}
 use Rattle.perm_tree.proofs.ResolvedLaws.{names_refusal-typed, resolved-placed}
 use Rattle.perm_tree.proofs.ResolvedOrder.{flat_map-changed, marks_of-resolved, numbers-resolved}
 
@@ -125,6 +125,7 @@ module _ (p : Listing) where
         (subst (All (Contains (map number (mention_numbers p)))) (sym type-classes) (all-among-map number (mention_numbers p) (type_classes p) orderly.mentioned));
     ordered = subst AreRising (sym (marks_of-resolved p)) orderly.ordered;
     once = resolved-once p orderly.once;
+    blocks = resolved-shallow p orderly.blocks;
   }
 
   pub resolved-formed : IsWellFormed p → IsWellFormed (resolved p)
