@@ -25,7 +25,7 @@ use Rattle.perm_parse.specs.MemberResults.{Gives}
 use Rattle.perm_parse.proofs.WellFormed.DeclaredNames.{meaning-classes, meaning-fields}
 use Rattle.perm_parse.proofs.WellFormed.FirstName.{meaning-first}
 use Rattle.perm_parse.proofs.WellFormed.ExpressionMarks.{AreInOrder, in-order}
-use Rattle.perm_parse.proofs.WellFormed.NestedStatements.{meaning-blocks}
+use Rattle.perm_parse.proofs.WellFormed.NestedStatements.{meaning-blocks, meaning-operands}
 use Rattle.perm_parse.proofs.WellFormed.ProgramMarks.{meaning-marked, meaning-rising}
 use Rattle.perm_parse.proofs.WellFormed.ClassMentions.{meaning-mentioned}
 use Rattle.perm_parse.proofs.OneAnswer.{gives-program}
@@ -46,6 +46,7 @@ meaning-orderly text tokens tree order spells is low =
       ordered = meaning-rising text tokens tree order spells;
       once = meaning-once text tree;
       blocks = meaning-blocks text tree is low;
+      operands = meaning-operands text tree is low;
     }
 
 parses-orderly : (text : List ℕ) (tokens : List Token) (p : Listing) → AreInOrder 0 tokens → Parses text tokens p → IsOrderly p

@@ -126,6 +126,7 @@ module _ (p : Listing) where
     ordered = subst AreRising (sym (marks_of-resolved p)) orderly.ordered;
     once = resolved-once p orderly.once;
     blocks = resolved-shallow p orderly.blocks;
+    operands = orderly.operands;
   }
 
   pub resolved-formed : IsWellFormed p → IsWellFormed (resolved p)

@@ -8,6 +8,7 @@ use Rattle.perm_tree.specs.declared.ast.Stmt.{Stmt}
 use Rattle.perm_tree.specs.declared.ast.Method.{Method}
 use Rattle.perm_tree.specs.declared.ast.ClassDecl.{ClassDecl}
 use Rattle.perm_tree.specs.Blocks.{HasShallowBlocks, HasStatementsOnce}
+use Rattle.perm_tree.specs.Operands.{HasShallowOperands}
 use Rattle.perm_tree.specs.Places.{AllBelow, IsPlaced, Listing}
 use Rattle.perm_tree.specs.Scopes.{declared_by}
 use Rattle.perm_tree.specs.Spelling.{this_word}
@@ -54,7 +55,7 @@ abbrev pub HasThisFirst : List (List ℕ) → Type 0
 HasThisFirst [] = Unit {0}
 HasThisFirst (word ∷ words) = word ≡ this_word
 
--- its names are distinct words, of which the first is `this`, each name in it is one of them, the classes of its types are mentioned, its methods are in text order, each statement stands in one block, and its blocks are shallow
+-- its names are distinct words, of which the first is `this`, each name in it is one of them, the classes of its types are mentioned, its methods are in text order, each statement stands in one block, and blocks and operands are shallow
 pub record IsOrderly (p : Listing) : Type 0 where
   pub words : AllPairs (λ v w. v ≢ w) p.names
   pub first : HasThisFirst p.names
@@ -63,6 +64,7 @@ pub record IsOrderly (p : Listing) : Type 0 where
   pub ordered : AreRising (marks_of p)
   pub once : HasStatementsOnce p
   pub blocks : HasShallowBlocks p.stmts
+  pub operands : HasShallowOperands p.exprs
 
 -- besides, its places are in range
 pub record IsWellFormed (p : Listing) : Type 0 where
