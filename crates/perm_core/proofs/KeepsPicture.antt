@@ -16,6 +16,7 @@ pub mod OtherHeaps
 pub mod PlainTurns
 pub mod Arguments
 pub mod ParTurns
+pub mod GiveTurns
 pub mod Relabellings
 pub mod CarriedValues
 pub mod CallEnds

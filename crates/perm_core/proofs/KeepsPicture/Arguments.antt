@@ -43,7 +43,7 @@ use Rattle.perm_core.proofs.KeepsPicture.Returns.{value-into}
 use Rattle.perm_core.proofs.KeepsPicture.ValuedLists.{has-of}
 
 -- ---------- types of values ----------
-get-some : {A : Type 0} (xs : List A) (x : ℕ) → x < length xs → (t : A) × (slice_get xs x ≡ Some t)
+pub get-some : {A : Type 0} (xs : List A) (x : ℕ) → x < length xs → (t : A) × (slice_get xs x ≡ Some t)
 get-some [] x less = absurd (omega (arith, less))
 get-some (a ∷ xs) zero less = (a, refl)
 get-some (a ∷ xs) (suc x) less = get-some xs x (omega (arith, less))

@@ -112,11 +112,11 @@ module _ (u : UnitCode) (labels : Labels) (h : Objects Name) (w : Way) (z : Zone
   out = top-low w z st j0 low (omega arith)
 
   -- where the given variable is isolated, its region moves
-  abbrev first : Region → Region
+  abbrev pub first : Region → Region
   first r = moved (cond (is_isolated p) (Moves (OfVariable w (calls st) v) (goal q (OfVariable w (calls st) x) (OwnOf (top_zone w z st))) ∷ []) []) r
 
   -- and then the zone of the block ends
-  abbrev ρ : Region → Region
+  abbrev pub ρ : Region → Region
   ρ r = renamed (Ends w (suc (zones st)) (ended_to (Some p) (goal q (OfVariable w (calls st) x) (OwnOf (top_zone w z st))))) (first r)
 
   to-there : (q : Perm) → is_absent (goal q (OfVariable w k0 x) (OwnOf zout)) ≡ false
@@ -188,7 +188,7 @@ module _ (u : UnitCode) (labels : Labels) (h : Objects Name) (w : Way) (z : Zone
   untied Readable b y r e n k = absurd (let f : true ≡ false = e in cc)
   untied Writable b y r e n k = absurd (let f : true ≡ false = e in cc)
 
-  abbrev after : Labels
+  abbrev pub after : Labels
   after n = ρ (labels n)
 
   module _ (vs saved : List Held) (val : Value Name) (U : Vars)
@@ -222,10 +222,10 @@ module _ (u : UnitCode) (labels : Labels) (h : Objects Name) (w : Way) (z : Zone
         go true false true e o p q r = absurd (let f : true ≡ false = p in cc)
         go true false false false o p q r = absurd (let f : false ≡ true = q in cc)
 
-    abbrev cleared : List Held
+    abbrev pub cleared : List Held
     cleared = clear_all tagged (clear tagged vs v) own
 
-    abbrev given : List Held
+    abbrev pub given : List Held
     given = assign (from_either (those hides) saved cleared) x (Some val)
 
     from-block : (y : ℕ) (ty : Ty) (a : Value Name) → type_of c y ≡ Some ty → those hides y ≡ false → slice_get cleared y ≡ Some (Some a) → value_fits h (λ p n. var_may_lead p (OfVariable w k0 y) zout (after n)) ty a ≡ true

@@ -84,14 +84,14 @@ only-hidden hides vs = ap (λ b. not b) (nothing-below (length laid) (minus (val
 
 module _ (u : UnitCode) where
   -- ---------- what is hidden in a code that goes ----------
-  top-goes : (below : List ℕ) (m : ℕ) (c : Code) (st : List (Frame Held)) (G H : Vars) → RestGoes u below m c st G H → (K : Vars) × Goes (context_above u below m st) c G K
+  pub top-goes : (below : List ℕ) (m : ℕ) (c : Code) (st : List (Frame Held)) (G H : Vars) → RestGoes u below m c st G H → (K : Vars) × Goes (context_above u below m st) c G K
   top-goes below m c [] G H goes = (H, goes)
   top-goes below m c (f ∷ st) G H goes = (goes.0, goes.1)
 
   covered : (below : List ℕ) (m : ℕ) (st : List (Frame Held)) (x : ℕ) → those (hidden_above below st) x ≡ true → those (context_above u below m st).hidden x ≡ true
   covered below m st x e = any-left x (hidden_above below st) (context_of u m).hidden e
 
-  uncovered : (below : List ℕ) (m : ℕ) (st : List (Frame Held)) (x : ℕ) → those (context_above u below m st).hidden x ≡ false → those (hidden_above below st) x ≡ false
+  pub uncovered : (below : List ℕ) (m : ℕ) (st : List (Frame Held)) (x : ℕ) → those (context_above u below m st).hidden x ≡ false → those (hidden_above below st) x ≡ false
   uncovered below m st x e = go (those (hidden_above below st) x) refl
     where
       go : (b : Bool) → those (hidden_above below st) x ≡ b → b ≡ false
