@@ -17,6 +17,7 @@ pub mod PlainTurns
 pub mod Arguments
 pub mod ParTurns
 pub mod GiveTurns
+pub mod AssignTurns
 pub mod Relabellings
 pub mod CarriedValues
 pub mod CallEnds

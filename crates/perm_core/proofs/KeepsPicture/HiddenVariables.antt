@@ -99,7 +99,7 @@ module _ (u : UnitCode) where
       go false q = refl
 
   -- what a simple statement mentions isn't hidden
-  statement-shown : (below : List ℕ) (m : ℕ) (at : Span) (i : Instruction) (rest : Code) (st : List (Frame Held)) (G H : Vars) → RestGoes u below m (Do at i rest) st G H → (x : ℕ) → those (hidden_above below st) x ≡ true → mentions i x ≡ false
+  pub statement-shown : (below : List ℕ) (m : ℕ) (at : Span) (i : Instruction) (rest : Code) (st : List (Frame Held)) (G H : Vars) → RestGoes u below m (Do at i rest) st G H → (x : ℕ) → those (hidden_above below st) x ≡ true → mentions i x ≡ false
   statement-shown below m at i rest st G H goes x hid = go (mentions i x) refl
     where
       free : (x : ℕ) → mentions i x ≡ true → those (hidden_above below st) x ≡ false
