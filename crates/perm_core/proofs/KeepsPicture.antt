@@ -18,6 +18,7 @@ pub mod Arguments
 pub mod ParTurns
 pub mod GiveTurns
 pub mod AssignTurns
+pub mod ReturnTurns
 pub mod Relabellings
 pub mod CarriedValues
 pub mod CallEnds

@@ -41,7 +41,7 @@ use Rattle.perm_core.proofs.KeepsPicture.PlainTurns.{on-fits}
 use Rattle.perm_core.proofs.KeepsPicture.Relabellings.{Good, good-none, good-moves, of_variable, FieldsStay, object-carry}
 
 -- where a value comes to is a region
-goal-there : (t : Ty) (e : Region) (z : Zone) → is_absent e ≡ false → is_absent (goal_of (Some t) e (OwnOf z)) ≡ false
+pub goal-there : (t : Ty) (e : Region) (z : Zone) → is_absent e ≡ false → is_absent (goal_of (Some t) e (OwnOf z)) ≡ false
 goal-there Long e z q = refl
 goal-there Boolean e z q = refl
 goal-there (Ref Isolated s) e z q = q

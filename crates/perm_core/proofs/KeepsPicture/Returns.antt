@@ -78,11 +78,11 @@ module _ (u : UnitCode) (labels : Labels) (h : Objects Name) (w : Way) (z : Zone
   out = top-low w z st j0 low (omega arith)
 
   -- what the end of a call does to the labels
-  abbrev ends_by : Tie → ℕ → Ty → Region → Region → Region
+  abbrev pub ends_by : Tie → ℕ → Ty → Region → Region → Region
   ends_by tie y t to r = moved (tie_moves tie (zones st) w (calls st) y t to) r
 
   -- the zone of the call
-  abbrev zone_in : Tie → Zone
+  abbrev pub zone_in : Tie → Zone
   zone_in Shares = zout
   zone_in Raises = Base w (suc (zones st))
   zone_in Lends = Base w (suc (zones st))
@@ -173,10 +173,10 @@ module _ (u : UnitCode) (labels : Labels) (h : Objects Name) (w : Way) (z : Zone
 
   -- ---------- the caller ----------
   module _ (tie : Tie) (into : Option ℕ) (y : ℕ) (saved : List Held) (lent : Option Held) (caller : ℕ) (t : Ty) (v : Value Name) where
-    abbrev to : Region
+    abbrev pub to : Region
     to = goal_into (context_of u caller) w z st into
 
-    abbrev types : List Ty
+    abbrev pub types : List Ty
     types = (context_of u caller).vars
 
     goal-there : (t : Option Ty) (x : ℕ) → is_absent (goal_of t (OfVariable w k0 x) (OwnOf zout)) ≡ false
@@ -188,7 +188,7 @@ module _ (u : UnitCode) (labels : Labels) (h : Objects Name) (w : Way) (z : Zone
     goal-there (Some (Ref Readable s)) x = refl
     goal-there (Some (Ref Writable s)) x = refl
 
-    to-there : is_absent to ≡ false
+    pub to-there : is_absent to ≡ false
     to-there = go into
       where
         go : (into : Option ℕ) → is_absent (goal_into (context_of u caller) w z st into) ≡ false
@@ -201,11 +201,11 @@ module _ (u : UnitCode) (labels : Labels) (h : Objects Name) (w : Way) (z : Zone
     good : Good (λ r. ends_by tie y t (goal_into (context_of u caller) w z st into) r)
     good = ends-good tie y t to to-there
 
-    abbrev after : Labels
+    abbrev pub after : Labels
     after n = ends_by tie y t (goal_into (context_of u caller) w z st into) (labels n)
 
     -- the result fits what takes it, before the zone of the call ends
-    abbrev ResultCame : Type 0
+    abbrev pub ResultCame : Type 0
     ResultCame = value_fits h (λ p n. var_may_lead p (goal_into (context_of u caller) w z st into) (zone_in tie) (labels n)) t v ≡ true
 
     taken : (x : ℕ) (s : Ty) → into ≡ Some x → type_of (context_of u caller) x ≡ Some s → result_fits u labels h tie t into caller ≡ true → ResultFits tie t s
