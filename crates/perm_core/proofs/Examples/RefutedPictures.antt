@@ -19,7 +19,6 @@ use Rattle.perm_core.specs.Core.{step}
 use Rattle.perm_core.specs.Whole.{IsWholeRoutine}
 use Rattle.perm_core.specs.Endings.{ByReturn, tree_ends}
 use Rattle.perm_rules.specs.Scoping.{is_scoped}
-use Rattle.perm_core.specs.Marked.{calls_right}
 use Rattle.perm_rules.specs.Goes.{context, first_live}
 use Rattle.perm_core.specs.Regions.{Base, Under, Absent, OwnOf, Labels}
 use Rattle.perm_core.specs.Picture.{IsPicture, TreeGoes, MayGive, next, later, object_fits, tree_fits, tree_right, tree_hidden, sides_stand, none_valued, context_above}

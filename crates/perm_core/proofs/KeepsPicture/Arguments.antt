@@ -1,6 +1,6 @@
 -- The value of an argument comes into a place: a variable, a parameter or a result of a type that it fits, in the zone in which the argument stands or, where it isn't tied, in any.
 use Rattle.std.proofs.Common.{◌≡◌, ℕ, zero, suc, ◌<◌, Bool, true, false, Option, Some, None, List, [], ◌∷◌, length, refl, sym, ap, subst, ◌∙◌, arith}
-use Rattle.std.specs.Prelude.{◌&&◌, ◌||◌, not, nat_eq, cond, slice_get}
+use Rattle.std.specs.Prelude.{◌&&◌, not, nat_eq, cond, slice_get}
 use Rattle.std.proofs.lemmas.Bool.{or_parts}
 use Rattle.perm_tree.specs.declared.ast.BinaryOp.{BinaryOp}
 use Rattle.perm_tree.specs.declared.ast.BinaryOp.TheVariants.{Mul, Div, Rem, Plus, Minus, Less, AtMost, Greater, AtLeast, Equal, Differs, And, Or}
@@ -15,23 +15,21 @@ use Rattle.perm_tree.specs.declared.ast.Ty.TheVariants.{Long, Bool as Boolean, R
 use Rattle.perm_tree.specs.Code.{Term, LongLit, BoolLit, NullLit, Local, Unary, Binary, Argument, Expression, Consumed, UnitCode}
 use Rattle.perm_tree.specs.Mentions.{any_in_term, any_in_argument, argument_mentions}
 use Rattle.perm_tree.specs.Shapes.{same_shape}
-use Rattle.perm_tree.specs.Vars.{Vars}
 use Rattle.perm_perm.specs.Order.{is_at_most}
-use Rattle.perm_perm.specs.Types.{same_kind, is_too_weak}
+use Rattle.perm_perm.specs.Types.{is_too_weak}
 use Rattle.perm_rules.specs.Liveness.{dead}
 use Rattle.perm_rules.specs.Parts.{Context, type_of, has_isolated}
 use Rattle.perm_rules.specs.Permissions.{argument_needs, argument_weak, weak, type_if}
 use Rattle.perm_rules.specs.Shapes.{argument_misfits}
-use Rattle.perm_rules.specs.Sorts.{Sort, Null as NullSort, Typed, sort_if, unary_type, binary_type, term_sort, argument_sort, differ, isnt_value_of, term_wrong, argument_wrong}
-use Rattle.perm_meaning.specs.Values.{Value, Number, Truth, Null, Reference, Eval, Gives}
+use Rattle.perm_rules.specs.Sorts.{Null as NullSort, Typed, sort_if, unary_type, binary_type, term_sort, differ, isnt_value_of, term_wrong, argument_wrong}
+use Rattle.perm_meaning.specs.Values.{Value, Number, Truth, Null, Reference, Gives}
 use Rattle.perm_meaning.specs.Names.{Name}
 use Rattle.perm_meaning.specs.Objects.{Objects}
 use Rattle.perm_meaning.specs.Expressions.{tagged, held, eval}
 use Rattle.perm_meaning.specs.Machine.{Way}
 use Rattle.perm_meaning.specs.NamedHeap.{Held}
-use Rattle.perm_meaning.proofs.Leads.{some_inj}
-use Rattle.perm_meaning.proofs.SameName.{both, together, eq_itself}
-use Rattle.perm_core.specs.Regions.{Zone, Region, OwnOf, OfVariable, Labels, same_region, var_may_lead}
+use Rattle.perm_meaning.proofs.SameName.{eq_itself}
+use Rattle.perm_core.specs.Regions.{Zone, Region, OwnOf, OfVariable, Labels, var_may_lead}
 use Rattle.perm_core.specs.Picture.{value_fits, valued}
 use Rattle.perm_core.specs.NextPicture.{Moves, moved, goal, goal_of, consumed_moves}
 use Rattle.perm_core.proofs.Evaluation.{IsOfType, IsOfSort, Evaluates, AreTyped, term-evaluates}

@@ -1,18 +1,15 @@
 -- An argument's value is assigned to a variable: the branch and the objects fit after it.
-use Rattle.std.proofs.Common.{◌≡◌, ℕ, suc, ◌<◌, Bool, true, false, Option, Some, None, List, [], ◌∷◌, length, refl, sym, ap, subst, ◌∙◌, arith, le_refl, inl, inr}
-use Rattle.std.specs.Prelude.{◌⊎◌, ◌&&◌, ◌||◌, not, nat_eq, cond, slice_get}
+use Rattle.std.proofs.Common.{◌≡◌, ℕ, ◌<◌, Bool, true, false, Some, List, [], ◌∷◌, refl, sym, ap, subst, ◌∙◌, arith, le_refl, inl, inr}
+use Rattle.std.specs.Prelude.{◌⊎◌, ◌&&◌, ◌||◌, nat_eq, cond, slice_get}
 use Rattle.std.proofs.lemmas.Bool.Decides.{nat_tests}
-use Rattle.perm_tree.specs.declared.ast.Perm.{Perm}
 use Rattle.perm_tree.specs.declared.ast.Perm.TheVariants.{Isolated, Immutable, Readable, Writable}
-use Rattle.perm_tree.specs.declared.ast.Shape.{Shape}
 use Rattle.perm_tree.specs.declared.ast.Span.{Span}
 use Rattle.perm_tree.specs.declared.ast.Ty.{Ty}
 use Rattle.perm_tree.specs.declared.ast.Ty.TheVariants.{Long, Bool as Boolean, Ref}
 use Rattle.perm_tree.specs.declared.errors.TypeKind.TheVariants.{WrongKind, Gone, NeedsConsume, PermissionTooWeak}
 use Rattle.perm_tree.specs.Code.{Argument, Expression, Consumed, Assign, Code, Do, UnitCode}
-use Rattle.perm_tree.specs.Mentions.{any_in_argument, argument_mentions, mentions}
+use Rattle.perm_tree.specs.Mentions.{any_in_argument, mentions}
 use Rattle.perm_tree.specs.Vars.{Vars, those}
-use Rattle.perm_rules.specs.Liveness.{dead}
 use Rattle.perm_rules.specs.Parts.{Context, Simple, type_of, has_isolated}
 use Rattle.perm_rules.specs.Permissions.{argument_weak}
 use Rattle.perm_rules.specs.Shapes.{argument_misfits}
@@ -21,15 +18,15 @@ use Rattle.perm_rules.proofs.PartLaws.{applies-none, known_in}
 use Rattle.perm_meaning.specs.Values.{Value}
 use Rattle.perm_meaning.specs.Names.{Name}
 use Rattle.perm_meaning.specs.Objects.{Objects}
-use Rattle.perm_meaning.specs.Expressions.{tagged, assign, clear}
+use Rattle.perm_meaning.specs.Expressions.{assign}
 use Rattle.perm_meaning.specs.Machine.{Frame, Way, Here, On, done}
 use Rattle.perm_meaning.specs.NamedHeap.{Held, Own, Branch}
 use Rattle.perm_meaning.proofs.Leads.{some_inj}
-use Rattle.perm_meaning.proofs.SameName.{both, together, eq_itself, eq_true}
+use Rattle.perm_meaning.proofs.SameName.{eq_itself}
 use Rattle.perm_core.specs.Core.{core}
-use Rattle.perm_core.specs.Regions.{Zone, Base, Region, OwnOf, OfVariable, OfField, Labels, same_way, same_region, is_absent, var_may_lead, calls, zones, top_zone}
+use Rattle.perm_core.specs.Regions.{Zone, Region, OwnOf, OfVariable, OfField, Labels, same_way, same_region, is_absent, var_may_lead, calls, zones, top_zone}
 use Rattle.perm_core.specs.Picture.{context_of, value_fits, variables_fit, stack_fits, tree_fits, object_fits, valued, hidden_above, context_above, RestGoes, stack_hidden}
-use Rattle.perm_core.specs.NextPicture.{Moves, moved, goal, goal_of, goal_at, consumed_moves}
+use Rattle.perm_core.specs.NextPicture.{Moves, moved, goal_of, goal_at, consumed_moves}
 use Rattle.perm_core.proofs.KeepsPicture.Arguments.{get-some, Comes, argument-comes}
 use Rattle.perm_core.proofs.KeepsPicture.CallEnds.{StartsLow, set-cases, set-length, stack-stays}
 use Rattle.perm_core.proofs.KeepsPicture.CarriedValues.{AllFit, to-all, from-all, one-carry, stack-carry}

@@ -1,13 +1,13 @@
 -- After an event the code of each branch ends as what stands below it needs.
-use Rattle.std.proofs.Common.{◌≡◌, ℕ, suc, Bool, true, false, Option, Some, None, List, [], ◌∷◌, refl, sym, ap, subst, ◌∙◌}
-use Rattle.std.specs.Prelude.{◌&&◌, ℤ, slice_get}
-use Rattle.perm_tree.specs.Code.{Instruction, Code, End, Give, Return, Do, If, While, Par, Recover, Routine, UnitCode}
+use Rattle.std.proofs.Common.{◌≡◌, ℕ, true, Option, Some, None, List, [], ◌∷◌, refl, sym, ap, subst, ◌∙◌}
+use Rattle.std.specs.Prelude.{◌&&◌, ℤ}
+use Rattle.perm_tree.specs.Code.{Code, End, Give, Return, Do, If, While, Par, Recover, UnitCode}
 use Rattle.perm_meaning.specs.Names.{Mark}
-use Rattle.perm_meaning.specs.Machine.{Frame, OpenBlock, OpenRecover, OpenCall, Close, Returning, Failing, Blocks, Leaf, Fork, Way, Final, Fine, GaveBack, Failed, Did, On, Splits, Ends, Dies, join_final, settled, done, resumed, join_of}
-use Rattle.perm_meaning.specs.NamedHeap.{Held, Op, Own, Branch, Task}
+use Rattle.perm_meaning.specs.Machine.{Frame, OpenBlock, OpenRecover, OpenCall, Close, Blocks, Leaf, Way, Final, Fine, GaveBack, Failed, Did, join_final, settled, done, resumed}
+use Rattle.perm_meaning.specs.NamedHeap.{Held, Op, Branch, Task}
 use Rattle.perm_meaning.proofs.SameName.{both, together}
 use Rattle.perm_core.specs.Core.{core}
-use Rattle.perm_core.specs.Endings.{Ending, ByNothing, ByGive, ByReturn, is_by_return, ends, stack_ends, is_settled, is_open, branch_ends, tree_ends}
+use Rattle.perm_core.specs.Endings.{Ending, ByNothing, ByGive, ByReturn, ends, stack_ends, is_settled, is_open, branch_ends, tree_ends}
 use Rattle.perm_core.specs.Whole.{IsWhole}
 use Rattle.perm_core.proofs.KeepsPicture.LeafTurns.{TurnTo, dying, ending, acting, making, beginning, left_block, right_block, into_loop, out_of_loop, parting, recovering, giving, returning}
 use Rattle.perm_core.proofs.KeepsPicture.TreeEvents.{EventAt, refused_leaf, told_leaf, joining, on_left, on_right}

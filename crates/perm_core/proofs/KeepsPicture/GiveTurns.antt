@@ -1,9 +1,8 @@
 -- A recover block gives its value: what is allowed of the `give` lets the value go where it is taken, and then the branch and the objects fit.
-use Rattle.std.proofs.Common.{◌≡◌, ℕ, suc, ◌<◌, Bool, true, false, Option, Some, None, List, [], ◌∷◌, ◌++◌, length, refl, sym, ap, subst, ◌∙◌, arith}
+use Rattle.std.proofs.Common.{◌≡◌, ℕ, suc, ◌<◌, Bool, true, false, Some, List, [], ◌∷◌, ◌++◌, length, refl, sym, ap, subst, ◌∙◌}
 use Rattle.std.specs.Prelude.{◌&&◌, ◌||◌, not, nat_eq, cond, slice_get}
-use Rattle.std.proofs.lemmas.Bool.{or_left, or_parts, or_right}
+use Rattle.std.proofs.lemmas.Bool.{or_left, or_right}
 use Rattle.perm_tree.specs.declared.ast.Perm.{Perm}
-use Rattle.perm_tree.specs.declared.ast.Perm.TheVariants.{Isolated, Immutable, Readable, Writable}
 use Rattle.perm_tree.specs.declared.ast.Shape.{Shape}
 use Rattle.perm_tree.specs.declared.ast.Span.{Span}
 use Rattle.perm_tree.specs.declared.ast.Ty.{Ty}
@@ -15,8 +14,7 @@ use Rattle.perm_tree.specs.Shapes.{same_shape}
 use Rattle.perm_tree.specs.Vars.{Vars, just, those, plus, minus}
 use Rattle.perm_perm.specs.Order.{is_at_most}
 use Rattle.perm_perm.specs.Adaptation.{raised}
-use Rattle.perm_perm.specs.Types.{is_too_weak, raised_type}
-use Rattle.perm_rules.specs.Parts.{Context, Given, type_of, if_both_known, has_isolated, is_isolated, isnt_reference}
+use Rattle.perm_rules.specs.Parts.{Context, Given, type_of, if_both_known, has_isolated, isnt_reference}
 use Rattle.perm_rules.specs.Permissions.{raised_weak}
 use Rattle.perm_rules.specs.Sorts.{differ}
 use Rattle.perm_rules.specs.Refusals.{IsAllowed}
@@ -29,10 +27,10 @@ use Rattle.perm_meaning.specs.Expressions.{tagged, assign, clear, clear_all}
 use Rattle.perm_meaning.specs.Custody.{from_either}
 use Rattle.perm_meaning.specs.Machine.{Frame, OpenRecover, Way, Here, On, done}
 use Rattle.perm_meaning.specs.NamedHeap.{Held, Own, Branch}
-use Rattle.perm_meaning.proofs.SameName.{both, together, eq_itself}
+use Rattle.perm_meaning.proofs.SameName.{both, eq_itself}
 use Rattle.perm_core.specs.Core.{core}
 use Rattle.perm_core.specs.Regions.{Zone, Base, Region, OwnOf, OfVariable, Labels, calls, zones, top_zone}
-use Rattle.perm_core.specs.Picture.{context_of, variables_fit, stack_fits, tree_fits, object_fits, valued, hidden_above, context_above, rest_of, routine_below, grown, recover_right, code_right, stack_right, only_valued, none_valued, stack_hidden}
+use Rattle.perm_core.specs.Picture.{context_of, variables_fit, stack_fits, tree_fits, object_fits, valued, hidden_above, context_above, grown, recover_right, code_right, stack_right, only_valued, none_valued, stack_hidden}
 use Rattle.perm_core.specs.NextPicture.{Moves, Ends, moved, renamed, goal, goal_of, goal_at, consumed_moves, perm_of, ended_to, give_moves}
 use Rattle.perm_core.proofs.KeepsPicture.Arguments.{get-some}
 use Rattle.perm_core.proofs.KeepsPicture.CallEnds.{StartsLow}

@@ -1,32 +1,32 @@
 -- After an event no hidden variable has a value, nor gets one where the code above a frame ends.
 use Rattle.std.proofs.Common.{◌≡◌, ℕ, zero, suc, Bool, true, false, Option, Some, None, List, [], ◌∷◌, ◌++◌, length, refl, sym, ap, subst, ◌∙◌, inl, inr}
-use Rattle.std.specs.Prelude.{◌⊎◌, ◌&&◌, ◌||◌, not, nat_eq, ℤ, slice_get}
+use Rattle.std.specs.Prelude.{◌⊎◌, ◌&&◌, ◌||◌, not, nat_eq, ℤ}
 use Rattle.std.specs.List.{list_any}
-use Rattle.std.proofs.lemmas.Bool.{or_cases, or_parts, or_left, or_right}
+use Rattle.std.proofs.lemmas.Bool.{or_cases, or_left, or_right}
 use Rattle.perm_tree.specs.declared.ast.Span.{Span}
 use Rattle.perm_tree.specs.declared.ast.Shape.{Shape}
 use Rattle.perm_tree.specs.declared.errors.TypeKind.TheVariants.{Hidden}
-use Rattle.perm_tree.specs.Code.{Term, Argument, Tie, Instruction, Invoke, Code, End, Give, Return, Do, If, While, Par, Recover, Routine, UnitCode}
+use Rattle.perm_tree.specs.Code.{Instruction, Invoke, Code, End, Give, Return, Do, If, While, Par, Recover, UnitCode}
 use Rattle.perm_tree.specs.Mentions.{any_in_option, any_in_argument, mentions}
-use Rattle.perm_tree.specs.Vars.{Vars, none, just, those, plus, minus, meet, some_below, IsWithin}
-use Rattle.perm_rules.specs.Parts.{Context, Simple, RecoverHead}
+use Rattle.perm_tree.specs.Vars.{Vars, just, those, plus, minus, meet, some_below, IsWithin}
+use Rattle.perm_rules.specs.Parts.{RecoverHead}
 use Rattle.perm_rules.specs.Goes.{Goes}
-use Rattle.perm_rules.specs.Scoping.{given, has_none, hides_tied, is_scoped}
+use Rattle.perm_rules.specs.Scoping.{given, has_none, is_scoped}
 use Rattle.perm_rules.proofs.PartLaws.{applies-none}
 use Rattle.perm_meaning.specs.Names.{Mark}
 use Rattle.perm_meaning.specs.Expressions.{tagged, assign, assign_into, clear, clear_all}
-use Rattle.perm_meaning.specs.Custody.{Moves, from_either, merged, only, while_called, lent_by, in_neither, back_l, back_r, mentions_l, mentions_r}
-use Rattle.perm_meaning.specs.Machine.{Frame, OpenBlock, OpenRecover, OpenCall, Close, Returning, Failing, Blocks, Leaf, Fork, Way, Final, Fine, GaveBack, Failed, Stage, Over, Due, over, stage_by_turns, stage_by_code, stage_from, stage, final, Did, On, Splits, Ends, Dies, settled, done, resumed, join_of}
+use Rattle.perm_meaning.specs.Custody.{Moves, from_either, only, while_called, in_neither, back_l, back_r, mentions_l, mentions_r}
+use Rattle.perm_meaning.specs.Machine.{Frame, OpenBlock, OpenRecover, OpenCall, Close, Returning, Failing, Blocks, Leaf, Fork, Way, Final, Fine, GaveBack, Failed, over, stage_by_turns, stage_by_code, stage_from, final, Did, On, Splits, settled, done, resumed, join_of}
 use Rattle.perm_meaning.specs.NamedHeap.{Held, Op, Own, Branch, Task}
 use Rattle.perm_meaning.specs.Turns.{blocks, lent_back}
-use Rattle.perm_meaning.proofs.Leads.{some_inj, none_some}
+use Rattle.perm_meaning.proofs.Leads.{none_some}
 use Rattle.perm_meaning.proofs.SameName.{both, together, eq_itself, eq_true}
 use Rattle.perm_core.specs.Core.{core}
-use Rattle.perm_core.specs.Picture.{context_if, context_of, valued, hidden_above, just_lent, just_taken, context_above, RestGoes, TreeGoes, code_right, stack_right, tree_right, none_valued, only_valued, stack_hidden, branch_hidden, tree_hidden}
+use Rattle.perm_core.specs.Picture.{context_of, valued, hidden_above, just_lent, just_taken, context_above, RestGoes, TreeGoes, stack_right, tree_right, none_valued, only_valued, stack_hidden, branch_hidden, tree_hidden}
 use Rattle.perm_core.proofs.Conflicts.{unfailed}
 use Rattle.perm_core.proofs.KeepsPicture.CallEnds.{any-left, any-right}
 use Rattle.perm_core.proofs.KeepsPicture.ValueSets.{none-fewer}
-use Rattle.perm_core.proofs.KeepsPicture.HiddenFree.{instruction-none, hidden-free}
+use Rattle.perm_core.proofs.KeepsPicture.HiddenFree.{hidden-free}
 use Rattle.perm_core.proofs.KeepsPicture.ValuedLists.{assign-within, clear-within, clear_all-within, only-within, either-within, into-within, back-within, acts-within}
 use Rattle.perm_core.proofs.KeepsPicture.LeafTurns.{Creates, object, array, TurnTo, dying, ending, acting, making, beginning, left_block, right_block, into_loop, out_of_loop, parting, recovering, giving, returning}
 use Rattle.perm_core.proofs.KeepsPicture.TreeEvents.{EventAt, refused_leaf, told_leaf, joining, on_left, on_right}

@@ -1,5 +1,5 @@
 -- What a turn does to its branch, case by case: each turn that asks the heap something, told any value, is one of these.
-use Rattle.std.proofs.Common.{◌≡◌, ℕ, suc, ◌+◌, ◌-◌, Bool, true, false, Option, Some, None, List, [], ◌∷◌, ◌++◌, length, refl, sym, ap, subst, ◌∙◌}
+use Rattle.std.proofs.Common.{◌≡◌, ℕ, suc, ◌-◌, Bool, true, false, Option, Some, None, List, [], ◌∷◌, ◌++◌, length, refl, sym, ap, subst, ◌∙◌}
 use Rattle.std.specs.Prelude.{ℤ, pos, negsuc, nat_lt, nat_eq, not, cond, slice_get, option_and_then}
 use Rattle.std.proofs.lemmas.List.{append_assoc, append-nil}
 use Rattle.perm_tree.specs.declared.ast.Span.{Span}
@@ -14,7 +14,7 @@ use Rattle.perm_meaning.specs.Values as values
 use Rattle.perm_meaning.specs.Values.{Value, Number, Truth, Null, Reference, Eval, Gives, Traps, Mistyped, Referred, ToNull, ToObject, NoReference}
 use Rattle.perm_meaning.specs.Names.{Name, Mark, after_object}
 use Rattle.perm_meaning.specs.Expressions.{tagged, assign, assign_into, look_up, clear, clear_all, eval, value_of}
-use Rattle.perm_meaning.specs.Effects.{Tick, Load, Store, Take, Make, Calling, Act, GoesOn, Calls, Halts, Effect, Does, Sticks, choose, depth_limit, ticks, halts, with_vars, into_var, makes, first_vars, on_value, if_number, on_number, on_referred, on_object, on_argument, on_arguments, on_index, on_length, on_class, on_call, on_routine, below_limit, effect}
+use Rattle.perm_meaning.specs.Effects.{Tick, Load, Store, Take, Make, Act, GoesOn, Calls, Halts, Effect, Does, Sticks, choose, depth_limit, ticks, halts, with_vars, into_var, makes, first_vars, on_value, if_number, on_number, on_referred, on_object, on_argument, on_arguments, on_index, on_length, on_class, on_call, on_routine, below_limit, effect}
 use Rattle.perm_meaning.specs.Custody.{Moves, from_either, only, while_called, lent_by}
 use Rattle.perm_meaning.specs.Machine.{Frame, OpenBlock, OpenRecover, OpenCall, Failure, Trapped, Blocks, Did, On, Splits, Ends, Dies, Turn, Takes, NoTurn}
 use Rattle.perm_meaning.specs.NamedHeap.{Held, Op, Own, marks}

@@ -1,39 +1,28 @@
 -- After an event the code to come goes on from what has a value then.
-use Rattle.std.proofs.Common.{◌≡◌, ℕ, zero, suc, ◌+◌, ◌<◌, Bool, true, false, Option, Some, None, List, [], ◌∷◌, ◌++◌, length, refl, sym, ap, subst, ◌∙◌, arith, inl, inr}
-use Rattle.std.specs.Prelude.{◌⊎◌, ◌&&◌, ◌||◌, not, nat_eq, cond, ℤ, slice_get}
+use Rattle.std.proofs.Common.{◌≡◌, ℕ, ◌<◌, true, Some, None, List, [], ◌∷◌, length, sym, subst, arith, inl, inr}
+use Rattle.std.specs.Prelude.{◌⊎◌, ◌||◌, not, nat_eq}
 use Rattle.std.specs.List.{list_any}
-use Rattle.std.proofs.lemmas.Bool.{or_cases, or_parts, or_left, or_right}
-use Rattle.std.proofs.lemmas.List.{append_assoc}
+use Rattle.std.proofs.lemmas.Bool.{or_cases, or_left, or_right}
 use Rattle.perm_tree.specs.declared.ast.Span.{Span}
-use Rattle.perm_tree.specs.declared.ast.Ty.{Ty}
-use Rattle.perm_tree.specs.declared.ast.Shape.{Shape}
-use Rattle.perm_tree.specs.declared.errors.TypeKind.TheVariants.{ParShared}
-use Rattle.perm_tree.specs.Code.{Term, Argument, Tie, Shares, Raises, Lends, Instruction, Declare, Assign, LoadField, LoadLength, LoadItem, TakeField, NewObject, NewArray, StoreField, StoreItem, Invoke, Print, Code, End, Give, Return, Do, If, While, Par, Recover, Routine, UnitCode}
-use Rattle.perm_tree.specs.Mentions.{argument_consumes, any_in_option, any_in_argument, just_if, just_option, arguments_consume, consumes, assigns, mentions, mentioned, written, block_mentions, block_writes}
-use Rattle.perm_tree.specs.Vars.{Vars, none, just, below, those, plus, minus, meet, IsWithin}
+use Rattle.perm_tree.specs.Code.{Term, Instruction, Declare, Assign, LoadField, LoadLength, LoadItem, TakeField, NewObject, NewArray, StoreField, StoreItem, Invoke, Print, Code, End, Give, Return, Do, If, While, Par, Recover, UnitCode}
+use Rattle.perm_tree.specs.Mentions.{argument_consumes, any_in_argument, just_if, just_option, arguments_consume, consumes, assigns, mentions, written, block_writes}
+use Rattle.perm_tree.specs.Vars.{Vars, just, below, those, plus, minus, meet, IsWithin}
 use Rattle.perm_tree.proofs.MentionLaws.{within-plus, within-minus}
-use Rattle.perm_rules.specs.Parts.{Context, Simple, Given, Condition, type_of}
-use Rattle.perm_rules.specs.Liveness.{after, after_give}
+use Rattle.perm_rules.specs.Parts.{Context, Simple}
+use Rattle.perm_rules.specs.Liveness.{after}
 use Rattle.perm_rules.specs.Effects as effects
 use Rattle.perm_rules.specs.Effects.{changed, instruction_effect, effect, block_effect}
-use Rattle.perm_rules.specs.Goes.{Goes, GoesRound, hiding, joined, context, first_live, HasDerivation, HaveDerivations, IsAccepted}
-use Rattle.perm_rules.specs.Scoping.{has_none, is_scoped}
-use Rattle.perm_rules.proofs.Agree.{agree}
-use Rattle.perm_rules.proofs.Fine.{known_code}
+use Rattle.perm_rules.specs.Goes.{Goes, GoesRound}
 use Rattle.perm_rules.proofs.PartLaws.{known_in}
 use Rattle.perm_rules.proofs.RefusalLaws.{monotone}
-use Rattle.perm_meaning.specs.Names.{Mark}
-use Rattle.perm_meaning.specs.Objects.{Objects}
-use Rattle.perm_meaning.specs.Values.{Value}
-use Rattle.perm_meaning.specs.Expressions.{tagged, assign, clear_all}
-use Rattle.perm_meaning.specs.Machine.{Frame, OpenBlock, OpenRecover, OpenCall, Blocks, Leaf, Fork, Did, On, Splits, Ends, Dies, settled, done}
-use Rattle.perm_meaning.specs.NamedHeap.{Held, Op, Own, Branch, Task}
-use Rattle.perm_meaning.proofs.SameName.{both, together, eq_itself, eq_true}
+use Rattle.perm_meaning.specs.Expressions.{tagged, clear_all}
+use Rattle.perm_meaning.specs.Machine.{Frame, OpenBlock, OpenRecover, OpenCall, Leaf, On, settled, done}
+use Rattle.perm_meaning.specs.NamedHeap.{Held, Own, Branch}
+use Rattle.perm_meaning.proofs.SameName.{both}
 use Rattle.perm_core.specs.Core.{core}
-use Rattle.perm_core.specs.Picture.{context_if, context_of, valued, hidden_above, live_after, rest_of, routine_below, context_above, RestGoes, TreeGoes}
-use Rattle.perm_core.proofs.OpeningPicture.{derived}
+use Rattle.perm_core.specs.Picture.{context_of, valued, live_after, rest_of, routine_below, context_above, RestGoes, TreeGoes}
 use Rattle.perm_core.proofs.KeepsPicture.GoesOfTrees.{Further, live-more, rest-more}
-use Rattle.perm_core.proofs.KeepsPicture.LiveLists.{clear_all-has, acts-has, IsAnswer}
+use Rattle.perm_core.proofs.KeepsPicture.LiveLists.{clear_all-has}
 
 -- ---------- code made of parts ----------
 -- what is made is written

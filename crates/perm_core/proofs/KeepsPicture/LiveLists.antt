@@ -1,20 +1,20 @@
 -- Which variables keep a value, or get one, where variables are assigned, cleared, handed on or begun.
 use Rattle.std.proofs.Common.{◌≡◌, ℕ, zero, suc, ◌+◌, ◌<◌, Bool, true, false, Option, Some, None, List, [], ◌∷◌, ◌++◌, length, refl, sym, ap, subst, ◌∙◌, arith, inl, inr}
-use Rattle.std.specs.Prelude.{◌⊎◌, ◌&&◌, ◌||◌, not, nat_eq, cond, slice_get, slice_set, replicate}
+use Rattle.std.specs.Prelude.{◌⊎◌, ◌||◌, not, nat_eq, cond, slice_get, slice_set, replicate}
 use Rattle.std.proofs.lemmas.Bool.{or_cases, or_left, or_right}
 use Rattle.perm_tree.specs.declared.ast.UnaryOp.{UnaryOp}
 use Rattle.perm_tree.specs.declared.ast.BinaryOp.{BinaryOp}
-use Rattle.perm_tree.specs.Code.{Term, LongLit, BoolLit, NullLit, Local, Unary, Binary, Argument, Expression, Consumed, Instruction, Declare, Assign, LoadField, LoadLength, LoadItem, TakeField, StoreField, StoreItem, Print, UnitCode}
-use Rattle.perm_tree.specs.Mentions.{argument_consumes, arguments_consume, consumes, assigns}
+use Rattle.perm_tree.specs.Code.{Term, LongLit, BoolLit, NullLit, Local, Unary, Binary, Argument, Expression, Consumed, Instruction, UnitCode}
+use Rattle.perm_tree.specs.Mentions.{argument_consumes, arguments_consume, assigns}
 use Rattle.perm_tree.specs.Vars.{Vars, none, just, below, those, plus, minus, meet, IsWithin}
 use Rattle.perm_rules.specs.Liveness.{after}
 use Rattle.perm_meaning.specs.Values as values
 use Rattle.perm_meaning.specs.Values.{Value, Number, Truth, Null, Eval, Gives, Traps, Mistyped}
 use Rattle.perm_meaning.specs.Names.{Name}
-use Rattle.perm_meaning.specs.Expressions.{tagged, filled, slot_unary, slot_binary, held, look_up, then_unary, then_binary, unless_decided, left_then_right, assign, clear, clear_all, eval, value_of}
+use Rattle.perm_meaning.specs.Expressions.{tagged, filled, held, then_unary, then_binary, unless_decided, left_then_right, assign, clear, clear_all, eval, value_of}
 use Rattle.perm_meaning.specs.Custody.{from_either_at, from_either, only_at, only}
 use Rattle.perm_meaning.specs.NamedHeap.{Held, Op, Own}
-use Rattle.perm_meaning.specs.Effects.{Tick, Load, Store, Take, Make}
+use Rattle.perm_meaning.specs.Effects.{Load, Take, Make}
 use Rattle.perm_meaning.proofs.SameName.{both, together, eq_itself, eq_true}
 use Rattle.perm_core.specs.Picture.{has_value, valued}
 use Rattle.perm_core.proofs.TwoOperations.{get-beside}

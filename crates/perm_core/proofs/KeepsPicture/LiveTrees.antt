@@ -1,14 +1,14 @@
 -- After an event of a tree the code to come goes on, to no fewer variables; but where a root gives back the value of a run it ends.
-use Rattle.std.proofs.Common.{◌≡◌, ℕ, zero, suc, ◌+◌, ◌<◌, Bool, true, false, Option, Some, None, List, [], ◌∷◌, ◌++◌, length, refl, sym, ap, subst, ◌∙◌, arith, inl, inr}
+use Rattle.std.proofs.Common.{◌≡◌, ℕ, zero, suc, ◌<◌, Bool, true, false, Option, Some, None, List, [], ◌∷◌, length, refl, sym, ap, subst, ◌∙◌, arith, inl, inr}
 use Rattle.std.specs.Prelude.{◌⊎◌, ◌&&◌, ◌||◌, not, nat_eq, ℤ, slice_get}
 use Rattle.perm_tree.specs.declared.ast.Shape.{Shape}
 use Rattle.perm_tree.specs.declared.ast.Ty.{Ty}
-use Rattle.perm_tree.specs.Code.{Tie, Shares, Raises, Lends, Instruction, Code, End, Give, Return, Do, If, While, Par, Recover, Routine, UnitCode}
+use Rattle.perm_tree.specs.Code.{Tie, Shares, Raises, Lends, Instruction, Code, End, Give, Return, Do, If, While, Par, Recover, UnitCode}
 use Rattle.perm_tree.specs.CodeOf.{is_tied}
-use Rattle.perm_tree.specs.Mentions.{mentions, assigns, block_mentions}
+use Rattle.perm_tree.specs.Mentions.{assigns, block_mentions}
 use Rattle.perm_tree.specs.Vars.{Vars, none, just, those, plus, minus, IsWithin}
 use Rattle.perm_perm.specs.Types.{fits}
-use Rattle.perm_rules.specs.Parts.{Context, type_of, if_both_known, has_isolated}
+use Rattle.perm_rules.specs.Parts.{Context, type_of, if_both_known}
 use Rattle.perm_rules.specs.Permissions.{call_type}
 use Rattle.perm_rules.specs.Liveness.{after}
 use Rattle.perm_rules.specs.Goes.{IsAccepted}
@@ -16,20 +16,19 @@ use Rattle.perm_rules.specs.Scoping.{has_none, is_scoped}
 use Rattle.perm_meaning.specs.Values.{Value}
 use Rattle.perm_meaning.specs.Names.{Name, Mark}
 use Rattle.perm_meaning.specs.Objects.{Objects}
-use Rattle.perm_meaning.specs.Expressions.{tagged, assign, clear, clear_all}
+use Rattle.perm_meaning.specs.Expressions.{tagged, assign}
 use Rattle.perm_meaning.specs.Custody.{Moves, only, while_called, lent_by, mentions_l, mentions_r}
 use Rattle.perm_meaning.specs.Effects.{first_vars}
-use Rattle.perm_meaning.specs.Machine.{Frame, OpenBlock, OpenRecover, OpenCall, Close, Returning, Failing, Blocks, Leaf, Fork, Way, Here, GoL, GoR, Final, Fine, GaveBack, Failed, Stage, Over, Due, over, stage_by_turns, stage_by_code, stage_from, stage, final, Did, On, Splits, Ends, Dies, settled, done, resumed, join_of}
+use Rattle.perm_meaning.specs.Machine.{Frame, OpenBlock, OpenRecover, OpenCall, Close, Returning, Failing, Blocks, Leaf, Fork, Way, Here, GoL, GoR, Final, Fine, GaveBack, Failed, Stage, Over, Due, over, stage_by_turns, stage_by_code, stage_from, stage, final, Did, Splits, done, resumed, join_of}
 use Rattle.perm_meaning.specs.NamedHeap.{Held, Op, Own, Branch, Task}
-use Rattle.perm_meaning.specs.Turns.{blocks}
-use Rattle.perm_meaning.proofs.Leads.{some_inj, none_some}
-use Rattle.perm_meaning.proofs.SameName.{both, together, eq_itself, eq_true}
+use Rattle.perm_meaning.proofs.Leads.{none_some}
+use Rattle.perm_meaning.proofs.SameName.{both, eq_itself, eq_true}
 use Rattle.perm_core.specs.Core.{core}
 use Rattle.perm_core.specs.Endings.{Ending, ByNothing, is_by_return, is_open, stack_ends, is_settled, branch_ends, tree_ends}
 use Rattle.perm_core.specs.Marked.{calls_right}
 use Rattle.perm_core.specs.Regions.{Zone, Base, Labels, calls, zones, top_zone, left_zone, right_zone}
-use Rattle.perm_core.specs.Picture.{context_of, mode_in, variables_fit, stack_fits, lent_right, lent_fits, result_fits, branch_fits, tree_fits, has_end, valued, hidden_above, lowest, stands_in, sides_stand, RestGoes, live_joined, HasFailed, TreeGoes, code_right, stack_right, tree_right, none_valued, only_valued, stack_hidden, branch_hidden, tree_hidden}
-use Rattle.perm_core.proofs.Conflicts.{due-open, unfailed}
+use Rattle.perm_core.specs.Picture.{context_of, mode_in, variables_fit, stack_fits, lent_right, lent_fits, result_fits, branch_fits, tree_fits, has_end, valued, hidden_above, lowest, stands_in, sides_stand, RestGoes, live_joined, HasFailed, TreeGoes, stack_right, tree_right, none_valued, only_valued, stack_hidden, branch_hidden, tree_hidden}
+use Rattle.perm_core.proofs.Conflicts.{unfailed}
 use Rattle.perm_core.proofs.KeepsPicture.CallEnds.{get-less}
 use Rattle.perm_core.proofs.KeepsPicture.CarriedValues.{to-all}
 use Rattle.perm_core.proofs.KeepsPicture.GoesOfTrees.{Further, rest-more, goes-left, goes-right}

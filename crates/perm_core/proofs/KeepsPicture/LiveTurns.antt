@@ -1,21 +1,20 @@
 -- After a call begins or ends, a recover block is entered or left, and a par begins or ends, the code to come goes on from what has a value then.
 use Rattle.std.proofs.Common.{◌≡◌, ℕ, zero, suc, ◌+◌, ◌<◌, Bool, true, false, Option, Some, None, List, [], ◌∷◌, ◌++◌, length, refl, sym, ap, subst, ◌∙◌, arith, inl, inr}
-use Rattle.std.specs.Prelude.{◌⊎◌, ◌&&◌, ◌||◌, not, nat_eq, cond, ℤ, slice_get}
+use Rattle.std.specs.Prelude.{◌⊎◌, ◌&&◌, ◌||◌, not, nat_eq, cond}
 use Rattle.std.proofs.lemmas.Bool.{or_cases, or_parts, or_left, or_right}
 use Rattle.std.proofs.lemmas.List.{append_assoc}
 use Rattle.perm_tree.specs.declared.ast.Span.{Span}
-use Rattle.perm_tree.specs.declared.ast.Ty.{Ty}
 use Rattle.perm_tree.specs.declared.errors.TypeKind.TheVariants.{ParShared}
-use Rattle.perm_tree.specs.Code.{Argument, Tie, Shares, Raises, Lends, Instruction, Invoke, Code, End, Give, Return, Do, If, While, Par, Recover, Routine, UnitCode}
-use Rattle.perm_tree.specs.Mentions.{just_if, just_option, arguments_consume, consumes, assigns, mentioned, written, block_mentions, block_writes}
-use Rattle.perm_tree.specs.Vars.{Vars, none, just, below, those, plus, minus, meet, some_below, IsWithin}
+use Rattle.perm_tree.specs.Code.{Argument, Tie, Shares, Raises, Lends, Invoke, Code, Give, Do, Par, Recover, Routine, UnitCode}
+use Rattle.perm_tree.specs.Mentions.{just_if, just_option, arguments_consume, mentioned, written, block_mentions, block_writes}
+use Rattle.perm_tree.specs.Vars.{Vars, none, just, below, those, plus, minus, meet, IsWithin}
 use Rattle.perm_tree.proofs.MentionLaws.{block_writes-within}
 use Rattle.perm_rules.specs.Parts.{Context, Given}
 use Rattle.perm_rules.specs.Pars.{uses, touches, touched, some_var, par_head}
-use Rattle.perm_rules.specs.Liveness.{after, after_give}
+use Rattle.perm_rules.specs.Liveness.{after}
 use Rattle.perm_rules.specs.Refusals.{IsAllowed}
-use Rattle.perm_rules.specs.Effects.{Effect, changed, effect, block_effect}
-use Rattle.perm_rules.specs.Goes.{Goes, hiding, joined, context, first_live, HasDerivation, IsAccepted}
+use Rattle.perm_rules.specs.Effects.{Effect, changed, effect}
+use Rattle.perm_rules.specs.Goes.{Goes, hiding, joined, context, first_live, IsAccepted}
 use Rattle.perm_rules.specs.Scoping.{has_none, is_scoped}
 use Rattle.perm_rules.proofs.Agree.{agree}
 use Rattle.perm_rules.proofs.ApartCodes.{block-touched, written-touched}
@@ -23,16 +22,16 @@ use Rattle.perm_rules.proofs.Fine.{known_code}
 use Rattle.perm_rules.proofs.PartLaws.{applies-none, known_in}
 use Rattle.perm_rules.proofs.RefusalLaws.{monotone}
 use Rattle.perm_meaning.specs.Values.{Value, Reference}
-use Rattle.perm_meaning.specs.Names.{Name, Mark}
-use Rattle.perm_meaning.specs.Expressions.{tagged, assign, assign_into, look_up, clear, clear_all, value_of}
-use Rattle.perm_meaning.specs.Custody.{Moves, from_either, merged, only, while_called, lent_by, in_neither, isolated_in, mentions_l, mentions_r, writes_l, writes_r, back_l, back_r}
+use Rattle.perm_meaning.specs.Names.{Name}
+use Rattle.perm_meaning.specs.Expressions.{tagged, assign, assign_into, clear, clear_all}
+use Rattle.perm_meaning.specs.Custody.{Moves, from_either, merged, only, while_called, lent_by, in_neither, isolated_in, mentions_l, mentions_r, back_l, back_r}
 use Rattle.perm_meaning.specs.Effects.{first_vars}
-use Rattle.perm_meaning.specs.Machine.{Frame, OpenBlock, OpenRecover, OpenCall, Blocks, Leaf, Fork, Did, On, Splits, Ends, Dies, settled, done}
-use Rattle.perm_meaning.specs.NamedHeap.{Held, Op, Own, Branch, Task}
+use Rattle.perm_meaning.specs.Machine.{Frame, OpenRecover, OpenCall, Blocks, Splits, done}
+use Rattle.perm_meaning.specs.NamedHeap.{Held, Own, Branch}
 use Rattle.perm_meaning.specs.Turns.{blocks, lent_back}
 use Rattle.perm_meaning.proofs.SameName.{both, together, eq_itself, eq_true}
 use Rattle.perm_core.specs.Core.{core}
-use Rattle.perm_core.specs.Picture.{context_if, context_of, valued, hidden_above, just_lent, just_taken, live_after, rest_of, routine_below, context_above, none_valued, only_valued, RestGoes, live_joined, TreeGoes}
+use Rattle.perm_core.specs.Picture.{context_if, context_of, valued, hidden_above, just_lent, just_taken, live_after, context_above, none_valued, only_valued, RestGoes, live_joined, TreeGoes}
 use Rattle.perm_core.proofs.OpeningPicture.{derived}
 use Rattle.perm_core.proofs.KeepsPicture.CallEnds.{any-left, only-hidden, nothing-below}
 use Rattle.perm_core.proofs.KeepsPicture.FewerLive.{goes-fewer, Onward}
@@ -42,9 +41,9 @@ use Rattle.perm_core.proofs.KeepsPicture.HiddenFree.{hidden-free}
 use Rattle.perm_core.proofs.KeepsPicture.HiddenVariables.{all-none}
 use Rattle.perm_core.proofs.KeepsPicture.SideFree.{side-free}
 use Rattle.perm_core.proofs.KeepsPicture.LeafTurns.{Receives, first, last, Begins}
-use Rattle.perm_core.proofs.KeepsPicture.LiveCode.{same, made-written, Top, top, further-more, do-goes}
-use Rattle.perm_core.proofs.KeepsPicture.LiveLists.{set-length, assign-has, clear-has, clear_all-has, only-has, either-first, either-second, held-has, evaluates-has, minus-both, AllValues, first-has}
-use Rattle.perm_core.proofs.KeepsPicture.ValuedLists.{has-of, only-within}
+use Rattle.perm_core.proofs.KeepsPicture.LiveCode.{same, made-written, Top, top, do-goes}
+use Rattle.perm_core.proofs.KeepsPicture.LiveLists.{set-length, assign-has, clear-has, clear_all-has, only-has, either-first, either-second, evaluates-has, minus-both, AllValues, first-has}
+use Rattle.perm_core.proofs.KeepsPicture.ValuedLists.{has-of}
 
 -- a code's end by its effect: what was live and isn't lost, or is made
 from-changed : (s : Effect) (G : Vars) (x : ℕ) → changed s G x ≡ true → ((G x ≡ true) × (not (s.lost x) ≡ true)) ⊎ (s.made x ≡ true)

@@ -1,12 +1,11 @@
 -- After an event no object has a name that is still to be given.
-use Rattle.std.proofs.Common.{◌≡◌, ℕ, zero, suc, ◌≤◌, Bool, true, false, Option, Some, None, List, [], ◌∷◌, length, refl, sym, ap, subst, ◌∙◌, le_refl, arith, inl, inr}
-use Rattle.std.specs.Prelude.{◌⊎◌, cond}
-use Rattle.perm_tree.specs.Code.{Code, End, Give, Return, Do, If, While, Par, Recover, UnitCode}
+use Rattle.std.proofs.Common.{◌≡◌, ℕ, suc, Bool, true, false, Option, Some, None, List, ◌∷◌, length, refl, sym, ap, subst, ◌∙◌, le_refl, arith, inl, inr}
+use Rattle.perm_tree.specs.Code.{Code, While, UnitCode}
 use Rattle.perm_tree.specs.declared.ast.Shape.{Shape}
-use Rattle.perm_meaning.specs.Names.{Name, Path, Side, OnLeft, OnRight, Mark, next_name, side_mark, after_par, after_object, same_name}
+use Rattle.perm_meaning.specs.Names.{Name, Side, OnLeft, OnRight, Mark, next_name, side_mark, after_par, after_object, same_name}
 use Rattle.perm_meaning.specs.Objects.{Object, size, new_object, with_field, with_field_if, this_or}
 use Rattle.perm_meaning.specs.Effects.{Tick, Load, Store, Take, Make}
-use Rattle.perm_meaning.specs.Machine.{Frame, OpenBlock, OpenRecover, OpenCall, Blocks, Leaf, Fork, Way, Final, Fine, GaveBack, Failed, Did, On, Splits, Ends, Dies, settled, done, resumed, join_of}
+use Rattle.perm_meaning.specs.Machine.{Frame, OpenBlock, OpenRecover, OpenCall, Leaf, Fork, Way, Final, Fine, GaveBack, Failed, Did, settled, done, resumed, join_of}
 use Rattle.perm_meaning.specs.NamedHeap.{Held, Heap, Op, Own, Branch, Task, has_room, stored, allocated, after}
 use Rattle.perm_meaning.specs.Values.{Value, Null}
 use Rattle.perm_meaning.proofs.SameName.{name_true}

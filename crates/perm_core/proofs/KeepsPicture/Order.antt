@@ -1,5 +1,5 @@
 -- Each event leads from a state with a picture to an orderly one.
-use Rattle.std.proofs.Common.{◌≡◌, ℕ, Bool, true, false, Option, Some, None, List, [], refl, sym, ap, subst, ◌∙◌, inl, inr}
+use Rattle.std.proofs.Common.{◌≡◌, ℕ, Bool, true, false, Option, Some, None, [], refl, sym, ap, subst, ◌∙◌, inl, inr}
 use Rattle.std.specs.Prelude.{◌⊎◌, cond}
 use Rattle.perm_tree.specs.declared.ast.Shape.{Shape}
 use Rattle.perm_tree.specs.Code.{UnitCode}
@@ -9,7 +9,7 @@ use Rattle.perm_meaning.specs.Names.{Name, Mark, next_name}
 use Rattle.perm_meaning.specs.Objects.{length_of, field_of}
 use Rattle.perm_meaning.specs.Effects.{Tick, Load, Store, Take, Make}
 use Rattle.perm_meaning.specs.Machine.{Way, Here, fill}
-use Rattle.perm_meaning.specs.NamedHeap.{Held, Op, Task, State, Heap, has_room, found, found_nothing, find, after, memory}
+use Rattle.perm_meaning.specs.NamedHeap.{Held, Op, State, Heap, has_room, found, find, after, memory}
 use Rattle.perm_meaning.specs.Steps.{Answer, Found, Refused, Missing, within, answered, asked}
 use Rattle.perm_meaning.proofs.Leads.{some_inj, none_some}
 use Rattle.perm_core.specs.Core.{core, look, step}

@@ -1,6 +1,6 @@
 -- Variables and objects fit in another heap too, and under other labels, where what is there keeps its shape and its label.
-use Rattle.std.proofs.Common.{◌≡◌, ℕ, suc, Bool, true, false, Option, Some, None, List, [], ◌∷◌, length, refl, sym, ap, subst, ◌∙◌}
-use Rattle.std.specs.Prelude.{◌&&◌, ◌||◌, not, nat_eq, cond, slice_set}
+use Rattle.std.proofs.Common.{◌≡◌, ℕ, suc, Bool, true, false, Option, Some, None, List, [], ◌∷◌, refl, sym, ap, subst, ◌∙◌}
+use Rattle.std.specs.Prelude.{◌&&◌, ◌||◌, not}
 use Rattle.perm_tree.specs.declared.ast.Perm.{Perm}
 use Rattle.perm_tree.specs.declared.ast.Shape.{Shape}
 use Rattle.perm_tree.specs.declared.ast.Shape.TheVariants.{Class, Array}
@@ -13,11 +13,11 @@ use Rattle.perm_meaning.specs.Values.{Value, Number, Truth, Null, Reference}
 use Rattle.perm_meaning.specs.Names.{Name, Mark, next_name, same_name}
 use Rattle.perm_meaning.specs.Objects.{Object, Objects, size, new_object, with_field, with_field_if, this_or}
 use Rattle.perm_meaning.specs.Effects.{Tick, Load, Store, Take, Make}
-use Rattle.perm_meaning.specs.Machine.{Frame, OpenBlock, OpenRecover, OpenCall, Blocks, Close, Leaf, Fork, Way, Here, GoL, GoR}
+use Rattle.perm_meaning.specs.Machine.{Frame, OpenBlock, OpenRecover, OpenCall, Close, Leaf, Fork, Way, Here, GoL, GoR}
 use Rattle.perm_meaning.specs.NamedHeap.{Held, Heap, Op, Branch, Task, has_room, stored, allocated, after}
 use Rattle.perm_meaning.proofs.SameName.{both, together, name_true}
-use Rattle.perm_core.specs.Regions.{Zone, Base, OwnOf, OfVariable, OfField, Region, Labels, same_region, is_absent, var_may_lead, field_may_lead, calls, zones, top_zone, left_zone, right_zone}
-use Rattle.perm_core.specs.Picture.{context_of, mode_in, length_fits, has_shape, value_fits, variable_fits, variables_fit, lent_right, lent_fits, result_fits, stack_fits, has_end, branch_fits, tree_fits, fields_fit, is_number, class_fits, values_fit, object_fits}
+use Rattle.perm_core.specs.Regions.{Zone, Base, OwnOf, OfVariable, OfField, Labels, same_region, is_absent, var_may_lead, field_may_lead, calls, zones, top_zone, left_zone, right_zone}
+use Rattle.perm_core.specs.Picture.{context_of, mode_in, length_fits, has_shape, value_fits, variable_fits, variables_fit, lent_right, lent_fits, result_fits, stack_fits, has_end, branch_fits, tree_fits, fields_fit, class_fits, values_fit, object_fits}
 use Rattle.perm_core.proofs.KeepsPicture.CallEnds.{set-length}
 
 -- what is there keeps its shape and its label

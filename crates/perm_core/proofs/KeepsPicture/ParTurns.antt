@@ -1,10 +1,10 @@
 -- A par begins: what is allowed of its head lets each variable go to its side, and then the parent and both sides fit.
-use Rattle.std.proofs.Common.{◌≡◌, ℕ, suc, ◌<◌, ◌≤◌, Bool, true, false, Option, Some, None, List, [], ◌∷◌, ◌++◌, length, refl, sym, ap, subst, ◌∙◌, arith, le_refl, inl, inr}
+use Rattle.std.proofs.Common.{◌≡◌, ℕ, ◌<◌, Bool, true, false, Option, Some, None, List, length, refl, sym, ap, subst, ◌∙◌, arith, le_refl, inl, inr}
 use Rattle.std.specs.Prelude.{◌⊎◌, ◌&&◌, ◌||◌, ◌-◌, ◌/◌, not, nat_eq, slice_get}
-use Rattle.std.proofs.lemmas.Bool.{or_cases, or_parts, or_left}
+use Rattle.std.proofs.lemmas.Bool.{or_parts}
 use Rattle.std.proofs.lemmas.Bool.Decides.{nat_tests}
 use Rattle.perm_tree.specs.declared.ast.Perm.{Perm}
-use Rattle.perm_tree.specs.declared.ast.Perm.TheVariants.{Isolated, Immutable, Readable, Writable}
+use Rattle.perm_tree.specs.declared.ast.Perm.TheVariants.{Isolated, Writable}
 use Rattle.perm_tree.specs.declared.ast.Shape.{Shape}
 use Rattle.perm_tree.specs.declared.ast.Ty.{Ty}
 use Rattle.perm_tree.specs.declared.ast.Ty.TheVariants.{Ref}
@@ -13,28 +13,27 @@ use Rattle.perm_tree.specs.Code.{Code, Routine, UnitCode}
 use Rattle.perm_tree.specs.CodeOf.{is_tied}
 use Rattle.perm_tree.specs.Mentions.{block_mentions}
 use Rattle.perm_tree.specs.Names.{is_writable}
-use Rattle.perm_tree.specs.Vars.{Vars, below, those, plus, minus, meet, some_below}
+use Rattle.perm_tree.specs.Vars.{Vars, below, those, meet}
 use Rattle.perm_rules.specs.declared.ParMode.{ParMode}
-use Rattle.perm_rules.specs.declared.ParMode.TheVariants.{Symmetric, LeftAlone, RightAlone}
 use Rattle.perm_rules.specs.Parts.{Context, type_of, if_known, if_reference, has_isolated}
 use Rattle.perm_rules.specs.Pars.{uses, touches, isolated_vars, writable_vars, tied_vars, some_var, has_writable, can_stand_alone, mode_by, mode_of, par_head}
 use Rattle.perm_rules.specs.Refusals.{IsAllowed}
 use Rattle.perm_rules.proofs.PartLaws.{applies-none}
-use Rattle.perm_meaning.specs.Names.{Name, Mark}
+use Rattle.perm_meaning.specs.Names.{Name}
 use Rattle.perm_meaning.specs.Objects.{Objects}
 use Rattle.perm_meaning.specs.Expressions.{tagged}
 use Rattle.perm_meaning.specs.Custody.{is_isolated, vars_of_routine, var_types, isolated_in, in_neither, only, mentions_l, mentions_r, writes_l, writes_r, back_l, back_r}
-use Rattle.perm_meaning.specs.Machine.{Frame, Blocks, Leaf, Fork, Way, Here, GoL, GoR, Did, Splits, side_of, done}
-use Rattle.perm_meaning.specs.NamedHeap.{Held, Branch, Task}
+use Rattle.perm_meaning.specs.Machine.{Frame, Blocks, Way, Here, GoL, GoR, Splits, side_of, done}
+use Rattle.perm_meaning.specs.NamedHeap.{Held, Branch}
 use Rattle.perm_meaning.specs.Turns.{blocks}
-use Rattle.perm_meaning.proofs.SameName.{both, together}
+use Rattle.perm_meaning.proofs.SameName.{together}
 use Rattle.perm_core.specs.Core.{core}
-use Rattle.perm_core.specs.Regions.{Zone, Base, Under, Region, OwnOf, OfVariable, Labels, same_way, same_region, calls, zones, top_zone, left_zone, right_zone}
+use Rattle.perm_core.specs.Regions.{Zone, Base, Under, Region, OfVariable, Labels, same_way, calls, zones, top_zone, left_zone, right_zone}
 use Rattle.perm_core.specs.Picture.{context_if, context_of, mode_in, variables_fit, stack_fits, branch_fits, tree_fits, object_fits, hidden_above, stack_hidden}
 use Rattle.perm_core.specs.NextPicture.{moved, isolated_among, handed, par_moves}
 use Rattle.perm_core.proofs.KeepsPicture.CallEnds.{StartsLow, stack-stays, nothing-below, get-less}
 use Rattle.perm_core.proofs.KeepsPicture.CarriedValues.{stack-carry}
-use Rattle.perm_core.proofs.KeepsPicture.Joins.{moved-append, handed-other, handed-off, among-only}
+use Rattle.perm_core.proofs.KeepsPicture.Joins.{moved-append}
 use Rattle.perm_core.proofs.KeepsPicture.LiveTurns.{below-less}
 use Rattle.perm_core.proofs.KeepsPicture.ParStarts as starts
 use Rattle.perm_core.proofs.KeepsPicture.ParStarts.{MayGo, stays, reads, alone}

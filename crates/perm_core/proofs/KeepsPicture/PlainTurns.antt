@@ -1,6 +1,6 @@
 -- Turns that change no label: a branch that fails or ends, that enters or leaves a block or a loop, that enters a recover block, that declares, or that prints. Its variables fit after it.
-use Rattle.std.proofs.Common.{◌≡◌, ℕ, suc, Bool, true, false, Option, Some, None, List, [], ◌∷◌, length, refl, sym, ap, subst, ◌∙◌, inl, inr}
-use Rattle.std.specs.Prelude.{◌⊎◌, ◌&&◌, ◌||◌, not, nat_eq, slice_get}
+use Rattle.std.proofs.Common.{◌≡◌, ℕ, suc, Bool, true, false, Some, List, [], ◌∷◌, length, refl, sym, ap, subst, ◌∙◌}
+use Rattle.std.specs.Prelude.{◌&&◌, ◌||◌, not, slice_get}
 use Rattle.perm_tree.specs.declared.ast.Perm.{Perm}
 use Rattle.perm_tree.specs.declared.ast.Perm.TheVariants.{Isolated, Immutable, Readable, Writable}
 use Rattle.perm_tree.specs.declared.ast.Shape.{Shape}
@@ -10,7 +10,7 @@ use Rattle.perm_tree.specs.declared.ast.Ty.TheVariants.{Ref}
 use Rattle.perm_tree.specs.CodeOf.{is_tied}
 use Rattle.perm_tree.specs.Code.{Instruction, Declare, Print, Code, End, Give, Return, Do, If, While, Par, Recover, UnitCode}
 use Rattle.perm_tree.specs.Mentions.{block_mentions}
-use Rattle.perm_tree.specs.Vars.{Vars, just, those, plus, minus, meet, some_below}
+use Rattle.perm_tree.specs.Vars.{Vars, just, those, plus, minus, meet}
 use Rattle.perm_rules.specs.Parts.{Context, type_of, if_known}
 use Rattle.perm_rules.specs.Pars.{tied_vars, some_var}
 use Rattle.perm_rules.specs.Scoping.{given, has_none, hides_tied, is_scoped}
@@ -19,8 +19,8 @@ use Rattle.perm_meaning.specs.Names.{Name, Mark}
 use Rattle.perm_meaning.specs.Objects.{Objects}
 use Rattle.perm_meaning.specs.Expressions.{tagged, clear, clear_all}
 use Rattle.perm_meaning.specs.Custody.{only}
-use Rattle.perm_meaning.specs.Machine.{Frame, OpenBlock, OpenRecover, OpenCall, Close, Leaf, Fork, Way, Here, GoL, GoR, Did, On, Splits, Ends, Dies, settled, done}
-use Rattle.perm_meaning.specs.NamedHeap.{Held, Op, Own, Branch, Task}
+use Rattle.perm_meaning.specs.Machine.{Frame, OpenBlock, OpenRecover, OpenCall, Way, Here, Did, On, settled, done}
+use Rattle.perm_meaning.specs.NamedHeap.{Held, Op, Own, Branch}
 use Rattle.perm_meaning.proofs.SameName.{both, together}
 use Rattle.perm_core.specs.Core.{core}
 use Rattle.perm_core.specs.Marked.{calls_right}

@@ -1,5 +1,5 @@
 -- A call returns: the caller and the objects fit after it, however the call was tied.
-use Rattle.std.proofs.Common.{◌≡◌, ℕ, suc, ◌<◌, Bool, true, false, Option, Some, None, List, [], ◌∷◌, ◌++◌, refl, sym, ap, subst, ◌∙◌, le_refl, inl, inr}
+use Rattle.std.proofs.Common.{◌≡◌, ℕ, suc, ◌<◌, Bool, true, false, Option, Some, None, List, ◌∷◌, refl, sym, ap, subst, ◌∙◌, le_refl, inl, inr}
 use Rattle.std.specs.Prelude.{◌⊎◌, ◌&&◌, slice_get}
 use Rattle.perm_tree.specs.declared.ast.Span.{Span}
 use Rattle.perm_tree.specs.declared.ast.Ty.{Ty}
@@ -10,10 +10,10 @@ use Rattle.perm_rules.specs.Parts.{Context, Returned, type_of}
 use Rattle.perm_rules.specs.Refusals.{IsAllowed}
 use Rattle.perm_rules.specs.Scoping.{has_none}
 use Rattle.perm_rules.proofs.PartLaws.{applies-none}
-use Rattle.perm_meaning.specs.Values.{Value, Eval, Gives}
+use Rattle.perm_meaning.specs.Values.{Value, Gives}
 use Rattle.perm_meaning.specs.Names.{Name}
 use Rattle.perm_meaning.specs.Objects.{Objects}
-use Rattle.perm_meaning.specs.Expressions.{tagged, assign_into, look_up, value_of, clear}
+use Rattle.perm_meaning.specs.Expressions.{tagged, assign_into, value_of, clear}
 use Rattle.perm_meaning.specs.Machine.{Frame, OpenCall, Way, Here, On, done}
 use Rattle.perm_meaning.specs.NamedHeap.{Held, Own, Branch}
 use Rattle.perm_meaning.specs.Turns.{lent_back}
@@ -31,7 +31,7 @@ use Rattle.perm_core.proofs.KeepsPicture.HiddenVariables.{top-goes}
 use Rattle.perm_core.proofs.KeepsPicture.Joins.{moved-append}
 use Rattle.perm_core.proofs.KeepsPicture.LeafTurns.{Gives_one, plain_one, consumes_one}
 use Rattle.perm_core.proofs.KeepsPicture.PlainTurns.{on-fits}
-use Rattle.perm_core.proofs.KeepsPicture.Relabellings.{Good, object-carry}
+use Rattle.perm_core.proofs.KeepsPicture.Relabellings.{object-carry}
 use Rattle.perm_core.proofs.KeepsPicture.Returns as returns
 
 -- the value of an argument that nothing comes after

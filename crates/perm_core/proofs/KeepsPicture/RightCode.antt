@@ -1,5 +1,5 @@
 -- After an event the code to come is tied and scoped rightly, by what has a value then.
-use Rattle.std.proofs.Common.{◌≡◌, ℕ, suc, ◌+◌, arith, Bool, true, false, Option, Some, None, List, [], ◌∷◌, ◌++◌, length, refl, sym, ap, subst, ◌∙◌, inl, inr}
+use Rattle.std.proofs.Common.{◌≡◌, ℕ, suc, ◌+◌, arith, Bool, true, false, Option, Some, None, List, [], ◌∷◌, length, refl, sym, ap, subst, ◌∙◌, inl, inr}
 use Rattle.std.specs.Prelude.{◌⊎◌, ◌&&◌, ◌||◌, not, nat_eq, ℤ, slice_get}
 use Rattle.std.specs.List.{list_any}
 use Rattle.std.proofs.lemmas.Bool.{or_cases, or_left, or_right}
@@ -14,9 +14,9 @@ use Rattle.perm_rules.specs.Goes.{context, first_live}
 use Rattle.perm_rules.specs.Scoping.{given, has_none, hides_tied, is_scoped}
 use Rattle.perm_meaning.specs.Names.{Mark}
 use Rattle.perm_meaning.specs.Expressions.{tagged, assign, assign_into, clear, clear_all}
-use Rattle.perm_meaning.specs.Custody.{Moves, from_either, merged, only, while_called, lent_by, in_neither, isolated_in, mentions_l, mentions_r, writes_l, writes_r, back_l, back_r}
+use Rattle.perm_meaning.specs.Custody.{Moves, from_either, merged, only, while_called, in_neither, isolated_in, mentions_l, mentions_r, writes_l, writes_r, back_l, back_r}
 use Rattle.perm_meaning.specs.Effects.{first_vars}
-use Rattle.perm_meaning.specs.Machine.{Frame, OpenBlock, OpenRecover, OpenCall, Blocks, Leaf, Fork, Way, Final, Fine, GaveBack, Failed, Did, On, Splits, Ends, Dies, join_final, settled, done, resumed, join_of}
+use Rattle.perm_meaning.specs.Machine.{Frame, OpenBlock, OpenRecover, OpenCall, Blocks, Leaf, Way, Final, Fine, GaveBack, Failed, Did, On, Splits, settled, done, resumed, join_of}
 use Rattle.perm_meaning.specs.NamedHeap.{Held, Op, Own, Branch, Task}
 use Rattle.perm_meaning.specs.Turns.{blocks, lent_back}
 use Rattle.perm_meaning.proofs.SameName.{both, together, eq_itself, eq_true}
@@ -24,9 +24,9 @@ use Rattle.perm_core.specs.Core.{core}
 use Rattle.perm_core.specs.Marked.{call_right, calls_right}
 use Rattle.perm_core.specs.Picture.{context_if, context_of, valued, rest_of, routine_below, just_lent, just_taken, grown, recover_right, code_right, stack_right, tree_right}
 use Rattle.perm_core.specs.Whole.{IsWhole}
-use Rattle.perm_core.proofs.KeepsPicture.ValueSets.{none-fewer, tied-fewer, scoped-fewer, code-fewer, stack-fewer}
+use Rattle.perm_core.proofs.KeepsPicture.ValueSets.{tied-fewer, scoped-fewer, stack-fewer}
 use Rattle.perm_core.proofs.KeepsPicture.ValuedLists.{assign-within, clear-within, clear_all-within, only-within, either-within, into-within, back-within, evaluates-within, acts-within, first-within}
-use Rattle.perm_core.proofs.KeepsPicture.LeafTurns.{Receives, first, last, Begins, Creates, object, array, Evaluates, TurnTo, dying, ending, acting, making, beginning, left_block, right_block, into_loop, out_of_loop, parting, recovering, giving, returning}
+use Rattle.perm_core.proofs.KeepsPicture.LeafTurns.{Receives, first, last, Creates, object, array, TurnTo, dying, ending, acting, making, beginning, left_block, right_block, into_loop, out_of_loop, parting, recovering, giving, returning}
 use Rattle.perm_core.proofs.KeepsPicture.TreeEvents.{EventAt, refused_leaf, told_leaf, joining, on_left, on_right}
 
 -- ---------- sets ----------

@@ -1,9 +1,9 @@
 -- After an event each side stands in the method of its parent, and bears the path of the par that its parent began last.
-use Rattle.std.proofs.Common.{◌≡◌, ℕ, suc, Bool, true, false, Option, Some, None, List, [], ◌∷◌, refl, sym, ap, subst, ◌∙◌}
-use Rattle.std.specs.Prelude.{◌&&◌, ◌||◌, not, nat_eq, ℤ}
+use Rattle.std.proofs.Common.{◌≡◌, ℕ, Bool, true, false, Option, List, [], ◌∷◌, refl, sym, ap, subst, ◌∙◌}
+use Rattle.std.specs.Prelude.{◌&&◌, ◌||◌, not, nat_eq}
 use Rattle.perm_tree.specs.Code.{Code, End, Give, Return, Do, If, While, Par, Recover, UnitCode}
-use Rattle.perm_meaning.specs.Names.{Path, Mark, OnLeft, OnRight}
-use Rattle.perm_meaning.specs.Machine.{Frame, OpenBlock, OpenRecover, OpenCall, Close, Blocks, Leaf, Fork, Way, Final, Fine, GaveBack, Failed, Did, On, Splits, Ends, Dies, join_final, settled, done, resumed, join_of}
+use Rattle.perm_meaning.specs.Names.{Path, Mark}
+use Rattle.perm_meaning.specs.Machine.{Frame, OpenBlock, OpenRecover, OpenCall, Leaf, Fork, Way, Final, Fine, GaveBack, Failed, Did, On, Splits, Ends, Dies, settled, done, resumed, join_of}
 use Rattle.perm_meaning.specs.NamedHeap.{Held, Op, Own, Branch, Task}
 use Rattle.perm_meaning.proofs.SameName.{both, together, eq_itself, eq_true}
 use Rattle.perm_core.specs.Core.{core}

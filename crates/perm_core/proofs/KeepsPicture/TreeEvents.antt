@@ -1,9 +1,9 @@
 -- What an event does to a tree, case by case: a leaf takes a turn or is refused an allocation, a parent whose sides are over goes on, or it is an event of a side.
-use Rattle.std.proofs.Common.{◌≡◌, ℕ, zero, suc, Option, Some, None, List, [], ◌∷◌, refl, sym, subst}
-use Rattle.perm_tree.specs.Code.{Code, End, UnitCode}
+use Rattle.std.proofs.Common.{◌≡◌, ℕ, Option, Some, None, refl, sym, subst}
+use Rattle.perm_tree.specs.Code.{UnitCode}
 use Rattle.perm_meaning.specs.Effects.{Tick}
 use Rattle.perm_meaning.specs.Names.{Mark}
-use Rattle.perm_meaning.specs.Machine.{Frame, OpenBlock, Close, Returning, Failing, NoRoom, Leaf, Fork, Blocks, Way, Here, GoL, GoR, Final, Stage, Over, Due, stage_by_turns, stage_by_code, stage_from, stage, final, if_both_over, Did, Turn, Takes, NoTurn, turn_op, next_turn, leaf_op, leaf_on, ended, done, told_to, resumed, join_of, fill}
+use Rattle.perm_meaning.specs.Machine.{Close, Returning, Failing, NoRoom, Leaf, Fork, Blocks, Way, Here, GoL, GoR, Final, Stage, Over, Due, stage_by_code, stage_from, stage, final, if_both_over, Did, Turn, Takes, NoTurn, turn_op, next_turn, leaf_op, leaf_on, ended, done, told_to, resumed, join_of, fill}
 use Rattle.perm_meaning.specs.NamedHeap.{Held, Op, Own, Branch, Task}
 use Rattle.perm_meaning.proofs.Leads.{none_some, some_inj}
 use Rattle.perm_core.specs.Core.{core, look}

@@ -1,16 +1,14 @@
 -- Which variables have a value after they are assigned, cleared, handed on or begun.
-use Rattle.std.proofs.Common.{◌≡◌, ℕ, zero, suc, Bool, true, false, Option, Some, None, List, [], ◌∷◌, ◌++◌, length, refl, sym, ap, subst, ◌∙◌, inl, inr}
-use Rattle.std.specs.Prelude.{◌⊎◌, ◌&&◌, ◌||◌, not, nat_eq, slice_get, slice_set, replicate}
+use Rattle.std.proofs.Common.{◌≡◌, ℕ, zero, suc, true, false, Option, Some, None, List, [], ◌∷◌, ◌++◌, length, refl, ap, ◌∙◌, inl, inr}
+use Rattle.std.specs.Prelude.{◌⊎◌, ◌&&◌, ◌||◌, not, nat_eq, slice_get, replicate}
 use Rattle.std.proofs.lemmas.Bool.{or_cases, or_left, or_right}
-use Rattle.perm_tree.specs.Code.{Argument, Expression, Consumed, Instruction, Declare, Assign, LoadField, LoadLength, LoadItem, TakeField, NewObject, NewArray, StoreField, StoreItem, Invoke, Print, UnitCode}
-use Rattle.perm_tree.specs.Mentions.{any_in_option, any_in_instruction, any_in_argument, mentions}
-use Rattle.perm_tree.specs.Vars.{Vars, none, just, below, those, plus, minus, meet, IsWithin}
-use Rattle.std.specs.List.{list_any}
+use Rattle.perm_tree.specs.Code.{Argument, Instruction, Declare, Assign, LoadField, LoadLength, LoadItem, TakeField, StoreField, StoreItem, Print, UnitCode}
+use Rattle.perm_tree.specs.Mentions.{any_in_argument, mentions}
+use Rattle.perm_tree.specs.Vars.{Vars, just, below, those, plus, minus, meet, IsWithin}
 use Rattle.perm_meaning.specs.Values.{Value}
 use Rattle.perm_meaning.specs.Names.{Name}
 use Rattle.perm_meaning.specs.Expressions.{tagged, assign, assign_into, clear, clear_all}
 use Rattle.perm_meaning.specs.Custody.{from_either, only}
-use Rattle.perm_meaning.specs.Effects.{first_vars}
 use Rattle.perm_meaning.specs.NamedHeap.{Held, Op, Own}
 use Rattle.perm_meaning.specs.Turns.{lent_back}
 use Rattle.perm_meaning.proofs.SameName.{together, eq_itself}
