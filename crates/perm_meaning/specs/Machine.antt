@@ -1,5 +1,5 @@
 -- The interleaved machine: a tree of branches, in which any node that has an event may make it next. It is written over what variables hold (V), what a branch bears to name its objects (G), and what a turn asks of the heap (O).
-use Rattle.std.specs.Prelude.{◌≡◌, ℕ, zero, suc, ◌+◌, ◌-◌, ◌/◌, ℤ, List, [], ◌∷◌, ◌++◌, Option, Some, None}
+use Rattle.std.specs.Prelude.{ℕ, zero, suc, ◌+◌, ◌-◌, ◌/◌, ℤ, List, [], ◌∷◌, ◌++◌, Option, Some, None}
 use Rattle.perm_tree.specs.declared.ast.Span.{Span}
 use Rattle.perm_tree.specs.declared.errors.TrapKind.{TrapKind}
 use Rattle.perm_tree.specs.Code.{Code, End, Tie}

@@ -1,5 +1,5 @@
 -- The steps of a machine on a heap of its own, lists of events, and the runs in which the leftmost node is always next.
-use Rattle.std.specs.Prelude.{◌≡◌, ℕ, zero, suc, Bool, true, List, [], ◌∷◌, Option, Some, None, nat_le, option_and_then}
+use Rattle.std.specs.Prelude.{◌≡◌, ℕ, zero, suc, Bool, List, [], ◌∷◌, Option, Some, None, nat_le, option_and_then}
 use Rattle.perm_meaning.specs.Machine.{Machine, Branch, Task, Leaf, Fork, Blocks, Way, Here, GoL, GoR, Final, stage, final, look, fill, leaf_on, join_of, resumed}
 
 -- what the heap answers: what it finds, that an allocation is refused, or that the field isn't there

@@ -1,5 +1,5 @@
 -- Where the scopes of variables begin: those of the variables that stand in a stretch of the text, and those of the variables that are declared in one.
-use Rattle.std.proofs.Common.{◌≡◌, ℕ, zero, suc, ◌+◌, ◌<◌, ◌≤◌, Bool, true, false, Option, Some, None, List, [], ◌∷◌, ◌++◌, refl, sym, ap, subst, ◌∙◌, arith, zero-add, add-zero, le_refl, inl, inr}
+use Rattle.std.proofs.Common.{◌≡◌, ℕ, zero, suc, ◌+◌, ◌<◌, ◌≤◌, Bool, true, false, Some, List, [], ◌∷◌, ◌++◌, refl, sym, ap, subst, ◌∙◌, arith, zero-add, add-zero, le_refl, inl, inr}
 use Rattle.std.specs.Prelude.{◌⊎◌, ◌&&◌, not, nat_eq, nat_lt, length, map, slice_get}
 use Rattle.std.specs.List.{list_any}
 use Rattle.std.proofs.lemmas.Bool.{and_parts, eq-eqb, eqb-true, lt-ltb, ltb-true, or_cases, or_left, or_right}
@@ -14,7 +14,7 @@ use Rattle.perm_tree.specs.Vars.{Vars, those, plus, minus, meet, some_below}
 use Rattle.perm_rules.specs.Parts.{Context, if_known}
 use Rattle.perm_rules.specs.Pars.{tied_vars}
 use Rattle.perm_rules.specs.Scoping.{has_none, hides_tied}
-use Rattle.perm_rules.proofs.Scoped.{AreApart, LiesIn, known-found}
+use Rattle.perm_rules.proofs.Scoped.{AreApart, known-found}
 
 -- ---------- lists of variables ----------
 -- a variable stands in a list

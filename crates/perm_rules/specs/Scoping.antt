@@ -1,5 +1,5 @@
 -- What the scopes of variables make true of code: what a block declares has no value before it, a recover block hides each readable and writable variable from outside, and gives to the variable that takes its value.
-use Rattle.std.specs.Prelude.{ℕ, Bool, true, false, not, ◌&&◌, length, List}
+use Rattle.std.specs.Prelude.{ℕ, Bool, true, not, ◌&&◌, List}
 use Rattle.std.specs.List.{list_any}
 use Rattle.perm_tree.specs.Code.{Code, End, Give, Return, Do, If, While, Par, Recover}
 use Rattle.perm_tree.specs.Mentions.{mentions, block_mentions}
