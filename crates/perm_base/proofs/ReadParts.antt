@@ -1,8 +1,7 @@
 -- How far a file is read.
-use Rattle.std.proofs.Common.{◌≡◌, ℕ, ◌+◌, ◌≤◌, List, ◌++◌, length, take, drop, Option, None, Some, Result, Err, IfSome, IsSomeAnd, sym, subst, ◌∙◌, ap, arith, length-append, length-drop}
+use Rattle.std.proofs.Common.{◌≡◌, ℕ, ◌+◌, ◌≤◌, List, ◌++◌, length, take, drop, Option, None, Some, Err, IfSome, IsSomeAnd, sym, subst, ◌∙◌, ap, arith, length-append, length-drop}
 use Rattle.std.proofs.lemmas.List.{length-take-le}
 use Rattle.std.proofs.Math.Seq.{take-add}
-use Rattle.std.specs.Global.{Vec}
 use Rattle.perm_base.specs.Files.{Files, WhereTold, Copies}
 use Rattle.perm_base.specs.Reads.{AreReadsFor, GaveFor, ReadsUpTo, asked_count}
 use Rattle.perm_base.specs.declared.reading.ReadFault.{ReadFault}

@@ -69,10 +69,6 @@ module _ {S : Type 0} (gives : S → List ℕ → Option ℕ → S → Type 0) (
         (subst (λ r. gives before r (Some n) after) are.left given) refl;
   }
 
-  -- with nothing left the whole text is written
-  pub all_written : (rest : List ℕ) (after : S) → AreWritten gives text first rest after → length rest ≡ 0 → WritesUpTo gives text first (length text) after
-  all_written rest after are none = let all : are.at ≡ length text = omega (arith, are.size) in subst (λ n. WritesUpTo gives text first n after) all are.writes
-
   -- a write of what is left was refused
   pub refused_write : (rest : List ℕ) (before after : S) → AreWritten gives text first rest before → 0 < length rest
       → gives before rest None after → IsRefusedAfter gives text first after

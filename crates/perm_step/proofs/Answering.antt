@@ -1,10 +1,11 @@
 -- What follows for an expression from the values of its operands.
 use Rattle.std.proofs.Common.{◌≡◌, ℕ, true, false, Some, None, Option, Bool, ◌∙◌, ap}
+use Rattle.perm_tree.specs.declared.ast.UnaryOp.{UnaryOp}
 use Rattle.perm_tree.specs.declared.ast.BinaryOp.{BinaryOp}
-use Rattle.perm_meaning.specs.Expressions.{left_then_right, then_binary, unless_decided}
+use Rattle.perm_meaning.specs.Expressions.{left_then_right, then_binary, then_unary, unless_decided}
 use Rattle.perm_meaning.specs.Values.{Eval, Gives, Traps, Mistyped}
 use Rattle.perm_meaning.specs.Words.{words}
-use Rattle.perm_step.specs.declared.eval.Value.{Value}
+use Rattle.perm_step.specs.declared.values.Value.{Value}
 use Rattle.perm_step.specs.Evaluation.{as_eval, IsAnswer}
 
 -- the value of what an expression gives
@@ -28,3 +29,8 @@ both op (Gives a) (Gives b) left right v l r same =
     exact (left_then_right words op (Gives a) (Gives b)) v (same ∙ ap (λ x. left_then_right words op x (as_eval right)) l ∙ ap (left_then_right words op (Gives a)) r)
 both op (Gives a) (Traps k) left right v l r same =
     exact (left_then_right words op (Gives a) (Traps k)) v (same ∙ ap (λ x. left_then_right words op x (as_eval right)) l ∙ ap (left_then_right words op (Gives a)) r)
+
+pub one : (op : UnaryOp) (e : Eval ℕ) (value v : Value) → IsAnswer e value → as_eval v ≡ then_unary words op (as_eval value) → IsAnswer (then_unary words op e) v
+one op Mistyped value v is same = tt
+one op (Gives a) value v is same = exact (then_unary words op (Gives a)) v (same ∙ ap (then_unary words op) is)
+one op (Traps k) value v is same = exact (Traps k) v (same ∙ ap (then_unary words op) is)

@@ -4,12 +4,14 @@ use Rattle.std.specs.Prelude.{◌&&◌, map, slice_get}
 use Rattle.std.specs.List.{position_or_len}
 use Rattle.perm_tree.specs.declared.ast.ClassDecl.{ClassDecl}
 use Rattle.perm_tree.specs.declared.ast.FieldDecl.{FieldDecl}
+use Rattle.perm_tree.specs.declared.ast.Method.{Method}
 use Rattle.perm_tree.specs.declared.ast.Rhs.{Rhs}
 use Rattle.perm_tree.specs.declared.ast.Rhs.TheVariants.{Value, Field, TakeField as TakeRhs, Item, New, NewArray as NewArrayRhs, Call as CallRhs, Recover as RecoverRhs}
 use Rattle.perm_tree.specs.declared.ast.Stmt.{Stmt}
 use Rattle.perm_tree.specs.declared.ast.StmtKind.{StmtKind}
 use Rattle.perm_tree.specs.declared.ast.StmtKind.TheVariants.{Declare as DeclareStmt, Assign as AssignStmt, SetField, SetItem, Call as CallStmt, Print as PrintStmt, If as IfStmt, While as WhileStmt, Par as ParStmt}
 use Rattle.perm_tree.specs.declared.ast.Ty.{Ty}
+use Rattle.perm_tree.specs.declared.unit.MethodTable.{MethodTable}
 use Rattle.perm_tree.specs.Code.{Code, Return}
 use Rattle.perm_tree.specs.CodeOf.{Setting, setting, argument, var_at, assignment, kind_code, sequence, codes_of, routine, routine_if, routines_of, code_of}
 use Rattle.perm_tree.specs.Entries.{entries_from}
@@ -24,34 +26,70 @@ use Rattle.perm_step.proofs.StraightRuns.{steps}
 position-first : {A : Type 0} (f : A → Bool) (x : A) (xs : List A) → f x ≡ true → position_or_len f (x ∷ xs) ≡ 0
 position-first f x xs e = rw e refl
 
-module _ (u : Tables) (s : IsStraight u) where
-  -- the class of Main has the number 0
-  pub straight_main : (code_of u).main ≡ 0
-  straight_main = ap (position_or_len (is_class_word u.program main_word)) s.one_class ∙ position-first (is_class_word u.program main_word) s.class [] s.is_main
+-- the one class, the one method and the one table of a unit, by their names
+pub record Outline (u : Tables) : Type 0 where
+  pub class : ClassDecl
+  pub run : Method
+  pub table : MethodTable
+  pub one_class : u.program.classes ≡ class ∷ []
+  pub is_main : is_class_word u.program main_word class ≡ true
+  pub one_method : class.methods ≡ run ∷ []
+  pub is_run : is_word u.program.names run_word run.name.name ≡ true
+  pub one_table : u.tables ≡ table ∷ []
+  pub of_main : table.class ≡ 0
+  pub of_run : table.«method» ≡ 0
 
-  straight-method : method_of u.program s.table ≡ Some s.run
-  straight-method =
+module _ (u : Tables) (s : Outline u) where
+  -- the class of Main has the number 0
+  outline_main : (code_of u).main ≡ 0
+  outline_main = ap (position_or_len (is_class_word u.program main_word)) s.one_class ∙ position-first (is_class_word u.program main_word) s.class [] s.is_main
+
+  outline-method : method_of u.program s.table ≡ Some s.run
+  outline-method =
       (λ i. method_in (slice_get (s.one_class i) (s.of_main i)) (s.of_run i))
       ∙ ap (λ ds. slice_get ds 0) s.one_method
 
   is-run : is_method_of u.program (main_place u.program) (is_word u.program.names run_word) s.table ≡ true
   is-run =
-      let same : s.table.class ≡ main_place u.program = s.of_main ∙ sym straight_main in
-      (λ i. eq-eqb s.table.class (main_place u.program) same i && is_method_if (is_word u.program.names run_word) (straight-method i))
+      let same : s.table.class ≡ main_place u.program = s.of_main ∙ sym outline_main in
+      (λ i. eq-eqb s.table.class (main_place u.program) same i && is_method_if (is_word u.program.names run_word) (outline-method i))
       ∙ s.is_run
 
   -- its method Run has the number 0
-  pub straight_run : (code_of u).run ≡ 0
-  straight_run =
+  outline_run : (code_of u).run ≡ 0
+  outline_run =
       let f = is_method_of u.program (main_place u.program) (is_word u.program.names run_word) in
       ap (position_or_len f) s.one_table ∙ position-first f s.table [] is-run
 
-  straight-routines : (code_of u).routines ≡ routine u s.table s.run ∷ []
-  straight-routines = ap (routines_of u) s.one_table ∙ ap (λ o. routine_if u s.table o ++ []) straight-method
+  outline-routines : (code_of u).routines ≡ routine u s.table s.run ∷ []
+  outline-routines = ap (routines_of u) s.one_table ∙ ap (λ o. routine_if u s.table o ++ []) outline-method
+
+  -- the routine with which a run starts
+  pub outline_code : slice_get (code_of u).routines (code_of u).run ≡ Some (routine u s.table s.run)
+  outline_code = λ i. slice_get (outline-routines i) (outline_run i)
+
+module _ (u : Tables) (s : IsStraight u) where
+  abbrev outline : Outline u
+  outline = record {
+    class = s.class;
+    run = s.run;
+    table = s.table;
+    one_class = s.one_class;
+    is_main = s.is_main;
+    one_method = s.one_method;
+    is_run = s.is_run;
+    one_table = s.one_table;
+    of_main = s.of_main;
+    of_run = s.of_run;
+  }
+
+  -- the class of Main has the number 0
+  pub straight_main : (code_of u).main ≡ 0
+  straight_main = outline_main u outline
 
   -- the routine with which a run starts
   pub straight_code : slice_get (code_of u).routines (code_of u).run ≡ Some (routine u s.table s.run)
-  straight_code = λ i. slice_get (straight-routines i) (straight_run i)
+  straight_code = outline_code u outline
 
   -- the types of the fields of Main
   abbrev pub main_types : List Ty

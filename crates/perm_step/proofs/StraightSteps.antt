@@ -1,98 +1,180 @@
--- One statement of a straight unit after the other.
-use Rattle.std.proofs.Common.{◌≡◌, ℕ, ◌+◌, ◌<◌, ◌≤◌, Bool, true, false, ◌&&◌, cond, List, [], ◌∷◌, ◌++◌, Option, Some, ap, drop, get_or, length, subst, sym, ◌∙◌}
+-- Straight code as linked steps.
+use Rattle.std.proofs.Common.{◌≡◌, ◌∙◌, ℕ, ◌<◌, Bool, true, false, List, [], ◌∷◌, length, Some, refl, sym, ap, subst}
 use Rattle.std.specs.Prelude.{slice_get}
-use Rattle.std.proofs.lemmas.List.{drop_all, drop_more}
-use Rattle.perm_tree.specs.declared.ast.Arg.{Arg}
-use Rattle.perm_tree.specs.declared.ast.Arg.TheVariants.{Expr as Plain}
-use Rattle.perm_tree.specs.declared.ast.Ident.{Ident}
-use Rattle.perm_tree.specs.declared.ast.Rhs.TheVariants.{Field}
 use Rattle.perm_tree.specs.declared.ast.Span.{Span}
-use Rattle.perm_tree.specs.declared.ast.Stmt.{Stmt}
-use Rattle.perm_tree.specs.declared.ast.StmtKind.{StmtKind}
-use Rattle.perm_tree.specs.declared.ast.StmtKind.TheVariants.{Assign}
-use Rattle.perm_tree.specs.declared.ast.Ty.{Ty}
-use Rattle.perm_tree.specs.declared.unit.VarInfo.{VarInfo}
-use Rattle.perm_tree.specs.Code.{NullLit, Expression, LoadField, LoadLength, Code, Do, Return}
-use Rattle.perm_tree.specs.CodeOf.{Setting, argument, block_code, kind_code, read, setting, term_at, terms_of}
-use Rattle.perm_tree.specs.Lookup.{field_place, is_array, var_place, var_ty}
-use Rattle.perm_tree.specs.Places.{Listing}
-use Rattle.perm_tree.specs.Spelling.{length_word, is_word}
-use Rattle.perm_tree.specs.UnitTables.{Tables}
+use Rattle.perm_tree.specs.declared.bodies.Action.{Action}
+use Rattle.perm_tree.specs.declared.bodies.Action.TheVariants as actions
+use Rattle.perm_tree.specs.declared.bodies.Argument.{Argument}
+use Rattle.perm_tree.specs.declared.bodies.Bodies.{Bodies}
+use Rattle.perm_tree.specs.declared.bodies.Entry.{Entry}
+use Rattle.perm_tree.specs.declared.bodies.Step.{Step}
+use Rattle.perm_tree.specs.BodyTerms.{argument_of, instruction_of}
+use Rattle.perm_tree.specs.Code as code
+use Rattle.perm_tree.specs.Code.{Code, End, Give, Return, Do, If, While, Par, Recover, Routine, Tie, UnitCode}
+use Rattle.perm_tree.specs.Links.{Spot, spot_of, AreBodiesOf, StandsAt, IsSimple, IsDo, IsReturn, IsLinkedBy}
 use Rattle.perm_step.specs.declared.straight.Holds.{Holds}
-use Rattle.perm_step.specs.Deciding.{IsWhether, MayCome, Same}
-use Rattle.perm_step.specs.Straight.{AnObject, ANumber, IsNumber, IsStraightCode, IsStraightKind}
+use Rattle.perm_step.specs.Deciding.{IsNumberArgument, IsWhether, MayCome, Same}
+use Rattle.perm_step.specs.Straight.{IsStraightCode, Other}
 use Rattle.perm_step.proofs.Deciding.{whether-as}
-use Rattle.perm_step.proofs.StraightStmts.{straight_stmt-code}
 
-module _ (fields variables : ℕ) where
-  -- a load of what is no length
-  load-as : (at : Span) (held : List Holds) (b : Bool) (x y f : ℕ) (rest : Code) → b ≡ false → x ≡ length held → slice_get held y ≡ Some AnObject → f < fields
-      → Same (IsStraightCode fields variables held (Do at (cond b (LoadLength x y) (LoadField x y f)) rest)) (IsStraightCode fields variables (held ++ ANumber ∷ []) rest)
-  load-as at held true x y f rest test next object field = absurd (let no : ⊥ = cc test in no)
-  load-as at held false x y f rest test next object field = record { to = λ h. h.3; back = λ h. (next, object, field, h) }
+-- nothing is left where nothing is open round it
+pub left-alone : (m : ℕ) (c : Code) → spot_of m c [] ≡ record { routine = m; code = c; within = [] }
+left-alone m End = refl
+left-alone m (Give at w x) = refl
+left-alone m (Return at a) = refl
+left-alone m (Do at i rest) = refl
+left-alone m (If at e own1 a own2 b rest) = refl
+left-alone m (While at e own body rest) = refl
+left-alone m (Par at own1 a own2 b rest) = refl
+left-alone m (Recover at x own hides body rest) = refl
 
-module _ (u : Tables) (vars : List VarInfo) (p : Listing) (same : u.program ≡ p) where
-  -- a field that is loaded may come next
-  pub load-may : (fields : ℕ) (old new held : List Holds) (s : Stmt) (t : Option Ty) (x y f : Ident) → s.kind ≡ Assign t x (Field y f)
-      → (is_array (var_ty vars (var_place vars y)) && is_word p.names length_word f.name) ≡ false
-      → var_place vars x ≡ length old
-      → held ≡ old
-      → (slice_get held (var_place vars y) ≡ Some AnObject) × (field_place p (var_ty vars (var_place vars y)) f.name < fields)
-      → new ≡ old ++ ANumber ∷ []
-      → (rest : Code)
-      → Same (IsStraightCode fields (length vars) old (kind_code (setting u vars) [] s s.kind rest)) (IsStraightCode fields (length vars) new rest)
-  load-may fields old new held s t x y f is test next read_from field pushed rest =
-      let object = subst (λ (l : List Holds). slice_get l (var_place vars y) ≡ Some AnObject) read_from field.0 in
-      let k = setting u vars in
-      let known : (is_array (var_ty vars (var_place vars y)) && is_word u.program.names length_word f.name) ≡ false =
-      subst (λ (q : Listing). (is_array (var_ty vars (var_place vars y)) && is_word q.names length_word f.name) ≡ false) (sym same) test in
-      let within : field_place u.program (var_ty vars (var_place vars y)) f.name < fields = subst (λ (q : Listing). field_place q (var_ty vars (var_place vars y)) f.name < fields) (sym same) field.1 in
-      subst
-      (λ (kind : StmtKind). Same (IsStraightCode fields (length vars) old (kind_code k [] s kind rest)) (IsStraightCode fields (length vars) new rest))
-      (sym is)
-      (subst
-      (λ (l : List Holds). Same (IsStraightCode fields (length vars) old (Do s.span (read k (var_place vars x) y f) rest)) (IsStraightCode fields (length vars) l rest))
-      (sym pushed)
-      (load-as fields (length vars) s.span old _ (var_place vars x) (var_place vars y) (field_place u.program (var_ty vars (var_place vars y)) f.name) rest known next object within))
+module _ (stands : ℕ → Spot → Type 0) (b : Bodies) (u : UnitCode) (here : Spot) (at : Span) (next : ℕ) where
+  -- a simple statement stands at the spot of its step
+  pub as-do : (action : Action) → IsSimple action → IsLinkedBy stands b u here at next action → IsDo stands b u here at next action
+  as-do (actions.Declare x) simple linked = linked
+  as-do (actions.Assign x a) simple linked = linked
+  as-do (actions.LoadField x y f) simple linked = linked
+  as-do (actions.LoadLength x y) simple linked = linked
+  as-do (actions.LoadItem x y e) simple linked = linked
+  as-do (actions.TakeField x y f) simple linked = linked
+  as-do (actions.NewObject x class fields) simple linked = linked
+  as-do (actions.NewArray x e) simple linked = linked
+  as-do (actions.StoreField y f a) simple linked = linked
+  as-do (actions.StoreItem y i e) simple linked = linked
+  as-do (actions.Invoke v) simple linked = linked
+  as-do (actions.Print e) simple linked = linked
+  as-do (actions.If e other) simple linked = absurd simple
+  as-do (actions.While e first) simple linked = absurd simple
+  as-do (actions.Par first second place) simple linked = absurd simple
+  as-do actions.Recover simple linked = absurd simple
+  as-do (actions.Give w x) simple linked = absurd simple
+  as-do (actions.Return a) simple linked = absurd simple
+  as-do actions.End simple linked = absurd simple
 
-  -- the code of statements begins with that of the first
-  pub body-step : (is : List ℕ) (i d : ℕ) (s : Stmt) (end : Code) → i < length is → slice_get p.stmts (get_or is i d) ≡ Some s → IsStraightKind s.kind
-      → block_code (setting u vars) (drop i is) end ≡ kind_code (setting u vars) [] s s.kind (block_code (setting u vars) (drop (i + 1) is) end)
-  body-step is i d s end within here straight =
-      let k = setting u vars in
-      let found = subst (λ (q : Listing). slice_get q.stmts (get_or is i d) ≡ Some s) (sym same) here in
-      ap (λ (l : List ℕ). block_code k l end) (drop_more is i d within)
-      ∙ ap (λ (f : Code → Code). f (block_code k (drop (i + 1) is) end)) (straight_stmt-code k (get_or is i d) s found straight)
+  module _ (fields variables : ℕ) (held : List Holds) where
+    abbrev IsStraightHere : Type 0
+    IsStraightHere = IsStraightCode fields variables held here.code
 
-module _ (fields variables : ℕ) (k : Setting) where
-  -- where a statement may come next, what is straight depends on what is behind it
-  pub may-on : {P : Type 0} (old new : List Holds) (s : Stmt) (says : Bool) (code rest : Code) → MayCome fields variables k old s new says → says ≡ true → code ≡ kind_code k [] s s.kind rest
-      → Same P (IsStraightCode fields variables old code) → Same P (IsStraightCode fields variables new rest)
-  may-on old new s true code rest may test is same = record {
-    to = λ h. (may rest).to (subst (λ (c : Code). IsStraightCode fields variables old c) is (same.to h));
-    back = λ h. same.back (subst (λ (c : Code). IsStraightCode fields variables old c) (sym is) ((may rest).back h));
-  }
-  may-on old new s false code rest may test is same = absurd (let no : ⊥ = cc test in no)
+    -- where no statement of this action may come, nothing that is no return is straight
+    abbrev MayNotCome : Action → Type 0
+    MayNotCome action = (at : Span) (tie : Tie) (rest : Code) → IsStraightCode fields variables held (Do at (instruction_of b tie action) rest) → ⊥
 
-  -- and where it may not, nothing is
-  pub may-not : {P : Type 0} (old new : List Holds) (s : Stmt) (says : Bool) (code rest : Code) → MayCome fields variables k old s new says → says ≡ false → code ≡ kind_code k [] s s.kind rest
-      → Same P (IsStraightCode fields variables old code) → P → ⊥
-  may-not old new s true code rest may test is same h = absurd (let no : ⊥ = cc test in no)
-  may-not old new s false code rest may test is same h = may rest (subst (λ (c : Code). IsStraightCode fields variables old c) is (same.to h))
+    done-never : (action : Action) → IsDo stands b u here at next action → MayNotCome action → IsStraightHere → ⊥
+    done-never action d bad straight = bad at d.tie d.rest (subst (IsStraightCode fields variables held) d.code straight)
 
-module _ (u : Tables) (vars : List VarInfo) (p : Listing) (same : u.program ≡ p) where
-  -- what is returned at the end decides
-  pub return-may : {P : Type 0} (fields : ℕ) (held : List Holds) (is : List ℕ) (i e : ℕ) (back : Arg) (at : Span) (says : Bool) → length is ≤ i → back ≡ Plain e → length held ≡ length vars
-      → IsWhether says (IsNumber (get_or (terms_of vars p.exprs) e NullLit))
-      → Same P (IsStraightCode fields (length vars) held (block_code (setting u vars) (drop i is) (Return at (argument (setting u vars) back))))
-      → IsWhether says P
-  return-may fields held is i e back at says past plain count number whole =
-      let k = setting u vars in
-      let code : block_code k (drop i is) (Return at (argument k back)) ≡ Return at (Expression (term_at k e)) =
-      ap (λ (l : List ℕ). block_code k l (Return at (argument k back))) (drop_all i is past) ∙ ap (λ (a : Arg). Return at (argument k a)) plain in
-      let known = subst (λ (q : Listing). IsWhether says (IsNumber (get_or (terms_of vars q.exprs) e NullLit))) (sym same) number in
-      whether-as
-      says
-      (λ n. whole.back (subst (λ (c : Code). IsStraightCode fields (length vars) held c) (sym code) (n, count)))
-      (λ h. (subst (λ (c : Code). IsStraightCode fields (length vars) held c) code (whole.to h)).0)
-      known
+    pub never : (action : Action) → ((a : Argument) → action ≡ actions.Return a → ⊥) → IsLinkedBy stands b u here at next action → MayNotCome action → IsStraightHere → ⊥
+    never (actions.Declare x) other linked bad straight = done-never (actions.Declare x) linked bad straight
+    never (actions.Assign x a) other linked bad straight = done-never (actions.Assign x a) linked bad straight
+    never (actions.LoadField x y f) other linked bad straight = done-never (actions.LoadField x y f) linked bad straight
+    never (actions.LoadLength x y) other linked bad straight = done-never (actions.LoadLength x y) linked bad straight
+    never (actions.LoadItem x y e) other linked bad straight = done-never (actions.LoadItem x y e) linked bad straight
+    never (actions.TakeField x y f) other linked bad straight = done-never (actions.TakeField x y f) linked bad straight
+    never (actions.NewObject x class fields) other linked bad straight = done-never (actions.NewObject x class fields) linked bad straight
+    never (actions.NewArray x e) other linked bad straight = done-never (actions.NewArray x e) linked bad straight
+    never (actions.StoreField y f a) other linked bad straight = done-never (actions.StoreField y f a) linked bad straight
+    never (actions.StoreItem y i e) other linked bad straight = done-never (actions.StoreItem y i e) linked bad straight
+    never (actions.Invoke v) other linked bad straight = done-never (actions.Invoke v) linked bad straight
+    never (actions.Print e) other linked bad straight = done-never (actions.Print e) linked bad straight
+    never (actions.If e place) other linked bad straight = subst (IsStraightCode fields variables held) linked.code straight
+    never (actions.While e first) other linked bad straight = subst (IsStraightCode fields variables held) linked.code straight
+    never (actions.Par first second place) other linked bad straight = subst (IsStraightCode fields variables held) linked.code straight
+    never actions.Recover other linked bad straight = subst (IsStraightCode fields variables held) linked.code straight
+    never (actions.Give w x) other linked bad straight = subst (IsStraightCode fields variables held) linked.code straight
+    never (actions.Return a) other linked bad straight = other a refl
+    never actions.End other linked bad straight = subst (IsStraightCode fields variables held) linked.code straight
+
+    -- a return of a number ends straight code, where all variables are declared
+    return-is : (a : code.Argument) → Same (IsStraightCode fields variables held (Return at a)) ((length held ≡ variables) × IsNumberArgument a)
+    return-is (code.Expression e) = record { to = λ h. (h.1, h.0); back = λ h. (h.1, h.0) }
+    return-is (code.Consumed y) = record { to = λ h. absurd h; back = λ h. absurd h.1 }
+
+    pub returns-may : {P : Type 0} (a : Argument) (says : Bool) → here.code ≡ Return at (argument_of b.operations a) → Same P IsStraightHere → IsWhether says ((length held ≡ variables) × IsNumberArgument (argument_of b.operations a)) → IsWhether says P
+    returns-may a says is same told =
+        let ends = return-is (argument_of b.operations a) in
+        whether-as says
+        (λ h. same.back (subst (IsStraightCode fields variables held) (sym is) (ends.back h)))
+        (λ p. ends.to (subst (IsStraightCode fields variables held) is (same.to p)))
+        told
+
+    -- after a step that may come, what is straight depends on what is behind it
+    pub may-on : {P : Type 0} (new : List Holds) (action : Action) (d : IsDo stands b u here at next action) (says : Bool) → says ≡ true → MayCome fields variables b held action new says → Same P IsStraightHere
+        → Same P (IsStraightCode fields variables new d.rest)
+    may-on new action d true says may same =
+        let step = may.1 at d.tie d.rest in
+        record { to = λ p. step.to (subst (IsStraightCode fields variables held) d.code (same.to p)); back = λ h. same.back (subst (IsStraightCode fields variables held) (sym d.code) (step.back h)) }
+    may-on new action d false says may same = absurd (let no : ⊥ = cc says in no)
+
+-- a step that may come is a simple statement
+pub may-simple : (fields variables : ℕ) (b : Bodies) (old : List Holds) (action : Action) (new : List Holds) (says : Bool) → says ≡ true → MayCome fields variables b old action new says → IsSimple action
+may-simple fields variables b old action new true says may = may.0
+may-simple fields variables b old action new false says may = absurd (let no : ⊥ = cc says in no)
+
+pub may-not : (fields variables : ℕ) (b : Bodies) (old : List Holds) (action : Action) (new : List Holds) (says : Bool) → says ≡ false → MayCome fields variables b old action new says
+    → (at : Span) (tie : Tie) (rest : Code) → IsStraightCode fields variables old (Do at (instruction_of b tie action) rest) → ⊥
+may-not fields variables b old action new true says may = absurd (let no : ⊥ = cc says in no)
+may-not fields variables b old action new false says may = may
+
+-- ---------- the steps of a body ----------
+module _ (u : UnitCode) (b : Bodies) (a : AreBodiesOf u b) (fields variables : ℕ) where
+  -- a step of `Run` that nothing is open round, with this held there; from here on the code is straight exactly where the whole is
+  abbrev pub Course : List Holds → ℕ → Type 0
+  Course held at =
+      (at < length b.steps) × ((a.spot at).within ≡ [])
+      × ((r : Routine) → slice_get u.routines u.run ≡ Some r → Same (IsStraightCode fields variables (Other ∷ Other ∷ []) r.code) (IsStraightCode fields variables held (a.spot at).code))
+
+  pub course-begins : (first : Routine) → slice_get u.routines u.run ≡ Some first → (e : Entry) → slice_get b.entries b.run ≡ Some e → (held : List Holds) → held ≡ Other ∷ Other ∷ [] → Course held e.first
+  course-begins first here e entry held is = by (a.first b.run e first entry (ap (slice_get u.routines) a.run ∙ here))
+    where
+      by : StandsAt a.spot b.steps e.first (spot_of b.run first.code []) → Course held e.first
+      by (there, stands) =
+          let spot = stands ∙ left-alone b.run first.code in (
+            there,
+            ap (λ (s : Spot). s.within) spot,
+            λ r found.
+                let one : Some first ≡ Some r = sym here ∙ found in
+                let same : first ≡ r = cc one in
+                let code : r.code ≡ (a.spot e.first).code = sym (ap (λ (x : Routine). x.code) same) ∙ sym (ap (λ (s : Spot). s.code) spot) in
+                record {
+                  to = λ h. subst (λ (l : List Holds). IsStraightCode fields variables l (a.spot e.first).code) (sym is) (subst (IsStraightCode fields variables (Other ∷ Other ∷ [])) code h);
+                  back = λ h. subst (IsStraightCode fields variables (Other ∷ Other ∷ [])) (sym code) (subst (λ (l : List Holds). IsStraightCode fields variables l (a.spot e.first).code) is h);
+                },
+          )
+
+  module _ (at : ℕ) (s : Step) (here : slice_get b.steps at ≡ Some s) (held : List Holds) (course : Course held at) where
+    abbrev stands : ℕ → Spot → Type 0
+    stands q spot = StandsAt a.spot b.steps q spot
+
+    abbrev linked : IsLinkedBy stands b u (a.spot at) s.span s.next s.action
+    linked = (a.linked at s here).0
+
+    pub course-goes : (new : List Holds) (says : Bool) → says ≡ true → MayCome fields variables b held s.action new says → Course new s.next
+    course-goes new says yes_ may = by d.after
+      where
+        simple : IsSimple s.action
+        simple = may-simple fields variables b held s.action new says yes_ may
+
+        d : IsDo stands b u (a.spot at) s.span s.next s.action
+        d = as-do stands b u (a.spot at) s.span s.next s.action simple linked
+
+        by : StandsAt a.spot b.steps s.next (spot_of (a.spot at).routine d.rest (a.spot at).within) → Course new s.next
+        by (there, is) =
+            let spot = is ∙ ap (spot_of (a.spot at).routine d.rest) course.1 ∙ left-alone (a.spot at).routine d.rest in (
+              there,
+              ap (λ (x : Spot). x.within) spot,
+              λ r found. subst (λ (c : Code). Same (IsStraightCode fields variables (Other ∷ Other ∷ []) r.code) (IsStraightCode fields variables new c)) (sym (ap (λ (x : Spot). x.code) spot))
+                  (may-on stands b u (a.spot at) s.span s.next fields variables held new s.action d says yes_ may (course.2 r found)),
+            )
+
+    pub course-falls : (new : List Holds) (says : Bool) → says ≡ true → MayCome fields variables b held s.action new says → s.next < at
+    course-falls new says yes_ may = a.falls at s here (may-simple fields variables b held s.action new says yes_ may)
+
+    pub course-stops : (new : List Holds) (says : Bool) → says ≡ false → MayCome fields variables b held s.action new says → ((a : Argument) → s.action ≡ actions.Return a → ⊥) → (r : Routine) → slice_get u.routines u.run ≡ Some r
+        → IsStraightCode fields variables (Other ∷ Other ∷ []) r.code → ⊥
+    course-stops new says not_ may other r found straight =
+        never stands b u (a.spot at) s.span s.next fields variables held s.action other linked (may-not fields variables b held s.action new says not_ may) ((course.2 r found).to straight)
+
+    pub course-ends : (back : Argument) (says : Bool) → s.action ≡ actions.Return back → IsWhether says ((length held ≡ variables) × IsNumberArgument (argument_of b.operations back)) → (r : Routine) → slice_get u.routines u.run ≡ Some r
+        → IsWhether says (IsStraightCode fields variables (Other ∷ Other ∷ []) r.code)
+    course-ends back says is told r found =
+        let ending : IsReturn stands b u (a.spot at) s.span s.next back = subst (IsLinkedBy stands b u (a.spot at) s.span s.next) is linked in
+        returns-may stands b u (a.spot at) s.span s.next fields variables held back says ending.code (course.2 r found) told

@@ -1,21 +1,23 @@
 -- A straight unit from its parts, and its parts from the whole.
-use Rattle.std.proofs.Common.{◌≡◌, ◌∙◌, ◌<◌, ◌≤◌, Bool, true, false, ◌&&◌, List, [], ◌∷◌, Result, Ok, Err, IfOk, ap, arith, get_or, length, refl, subst, sym}
+use Rattle.std.proofs.Common.{◌≡◌, ◌∙◌, ◌<◌, ◌≤◌, Bool, true, false, ◌&&◌, List, [], ◌∷◌, Some, Result, Ok, Err, IfOk, ap, arith, get_or, length, refl, subst, sym}
 use Rattle.std.specs.Prelude.{slice_get}
+use Rattle.std.proofs.lemmas.Result.{IfOk-weaker}
 use Rattle.perm_tree.specs.declared.ast.ClassDecl.{ClassDecl}
 use Rattle.perm_tree.specs.declared.ast.FieldDecl.{FieldDecl}
 use Rattle.perm_tree.specs.declared.ast.Method.{Method}
 use Rattle.perm_tree.specs.declared.unit.MethodTable.{MethodTable}
 use Rattle.perm_tree.specs.declared.unit.VarInfo.{VarInfo}
-use Rattle.perm_tree.specs.Code.{Return}
-use Rattle.perm_tree.specs.CodeOf.{argument, block_code, routine, setting}
+use Rattle.perm_tree.specs.Code.{Routine}
+use Rattle.perm_tree.specs.CodeOf.{code_of, routine}
 use Rattle.perm_tree.specs.Lookup.{is_class_word}
 use Rattle.perm_tree.specs.Names.{is_good_run}
-use Rattle.perm_tree.specs.Places.{IsPlaced, Listing, MethodPlaced}
+use Rattle.perm_tree.specs.Places.{Listing}
 use Rattle.perm_tree.specs.Spelling.{is_word, main_word, run_word}
 use Rattle.perm_tree.specs.UnitTables.{Tables}
 use Rattle.perm_step.specs.Deciding.{IsWhether}
 use Rattle.perm_step.specs.Straight.{AllLong, AllStraight, IsStraight, IsStraightCode, Other}
 use Rattle.perm_step.proofs.Deciding.{whether-as}
+use Rattle.perm_step.proofs.StraightCode.{outline_code}
 
 -- a list of one element
 pub single : {X : Type 0} (xs : List X) (x : X) → 1 ≤ length xs → length xs < 2 → x ≡ get_or xs 0 x → xs ≡ x ∷ []
@@ -26,11 +28,6 @@ single (y ∷ z ∷ ys) x least below is = absurd (omega (arith, below))
 both-true : (a b : Bool) → (a && b) ≡ true → (a ≡ true) × (b ≡ true)
 both-true true b e = (refl, e)
 both-true false b e = absurd (let no : ⊥ = cc e in no)
-
--- the one method of the one class is placed
-pub one-placed : (p : Listing) (class : ClassDecl) (run : Method) → IsPlaced p → p.classes ≡ class ∷ [] → class.methods ≡ run ∷ [] → MethodPlaced (length p.exprs) (length p.stmts) run
-one-placed p class run placed one_class one_method =
-    placed.bodies 0 class (ap (λ (l : List ClassDecl). slice_get l 0) one_class) 0 run (ap (λ (l : List Method). slice_get l 0) one_method)
 
 module _ (u : Tables) (class : ClassDecl) (run : Method) (table : MethodTable) (one_class : u.program.classes ≡ class ∷ []) (one_method : class.methods ≡ run ∷ []) (one_table : u.tables ≡ table ∷ []) where
   -- the code of a straight unit is that of its one method
@@ -88,33 +85,48 @@ module _ (u : Tables) (class : ClassDecl) (run : Method) (table : MethodTable) (
       code-straight
       told
 
--- the same with what the function reads
-pub whole-decides : {E : Type 0} (u : Tables) (p : Listing) (class : ClassDecl) (run : Method) (table : MethodTable) (fields : List FieldDecl) (vars : List VarInfo) (r : Result Bool E)
-    → p ≡ u.program
-    → p.classes ≡ class ∷ []
-    → class.methods ≡ run ∷ []
-    → u.tables ≡ table ∷ []
-    → fields ≡ class.fields
-    → vars ≡ table.vars
-    → (is_class_word p main_word class && (is_word p.names run_word run.name.name && is_good_run run)) ≡ true
-    → AllLong fields
-    → AllStraight p.stmts
-    → table.class ≡ 0
-    → table.«method» ≡ 0
-    → (length class.fields ≤ 256) × (length table.vars ≤ 256) × (length run.body.stmts ≤ 1048576)
-    → IfOk r (λ b. IsWhether b (IsStraightCode (length fields) (length vars) (Other ∷ Other ∷ []) (block_code (setting u vars) run.body.stmts (Return run.span (argument (setting u vars) run.back)))))
-    → IfOk r (λ b. IsWhether b (IsStraight u))
-whole-decides u p class run table fields vars r same one_class one_method one_table of_class of_table named numbers statements of_main of_run small told =
-    let names = subst (λ (q : Listing). (is_class_word q main_word class && (is_word q.names run_word run.name.name && is_good_run run)) ≡ true) same named in
-    let first = both-true (is_class_word u.program main_word class) (is_word u.program.names run_word run.name.name && is_good_run run) names in
-    let second = both-true (is_word u.program.names run_word run.name.name) (is_good_run run) first.1 in
-    let with_fields = subst
-    (λ (fs : List FieldDecl). IfOk r (λ b. IsWhether b (IsStraightCode (length fs) (length vars) (Other ∷ Other ∷ []) (block_code (setting u vars) run.body.stmts (Return run.span (argument (setting u vars) run.back))))))
-    of_class
-    told in
-    let with_vars = subst
-    (λ (vs : List VarInfo). IfOk r (λ b. IsWhether b (IsStraightCode (length class.fields) (length vs) (Other ∷ Other ∷ []) (block_code (setting u vs) run.body.stmts (Return run.span (argument (setting u vs) run.back))))))
-    of_table
-    with_fields in
-    code-decides u class run table (subst (λ (q : Listing). q.classes ≡ class ∷ []) same one_class) one_method one_table r first.0 second.0 second.1
-    (subst (λ (l : List FieldDecl). AllLong l) of_class numbers) (subst (λ (q : Listing). AllStraight q.stmts) same statements) of_main of_run small with_vars
+-- ---------- with what the function reads ----------
+module _ (u : Tables) (p : Listing) (class : ClassDecl) (run : Method) (table : MethodTable) (same : p ≡ u.program) (one_class : p.classes ≡ class ∷ []) (one_method : class.methods ≡ run ∷ []) (one_table : u.tables ≡ table ∷ []) where
+  abbrev IsNamed : Type 0
+  IsNamed = (is_class_word p main_word class && (is_word p.names run_word run.name.name && is_good_run run)) ≡ true
+
+  names : IsNamed → (is_class_word u.program main_word class ≡ true) × (is_word u.program.names run_word run.name.name ≡ true) × (is_good_run run ≡ true)
+  names named =
+      let here = subst (λ (q : Listing). (is_class_word q main_word class && (is_word q.names run_word run.name.name && is_good_run run)) ≡ true) same named in
+      let first = both-true (is_class_word u.program main_word class) (is_word u.program.names run_word run.name.name && is_good_run run) here in
+      let second = both-true (is_word u.program.names run_word run.name.name) (is_good_run run) first.1 in
+      (first.0, second.0, second.1)
+
+  -- the routine with which a run starts
+  pub whole-routine : IsNamed → table.class ≡ 0 → table.«method» ≡ 0 → slice_get (code_of u).routines (code_of u).run ≡ Some (routine u table run)
+  whole-routine named of_main of_run = outline_code u (record {
+    class = class;
+    run = run;
+    table = table;
+    one_class = subst (λ (q : Listing). q.classes ≡ class ∷ []) same one_class;
+    is_main = (names named).0;
+    one_method = one_method;
+    is_run = (names named).1;
+    one_table = one_table;
+    of_main = of_main;
+    of_run = of_run;
+  })
+
+  pub whole-decides : {E : Type 0} (fields : List FieldDecl) (vars : List VarInfo) (r : Result Bool E)
+      → fields ≡ class.fields
+      → vars ≡ table.vars
+      → IsNamed
+      → AllLong fields
+      → AllStraight p.stmts
+      → table.class ≡ 0
+      → table.«method» ≡ 0
+      → (length class.fields ≤ 256) × (length table.vars ≤ 256) × (length run.body.stmts ≤ 1048576)
+      → IfOk r (λ b. (first : Routine) → slice_get (code_of u).routines (code_of u).run ≡ Some first → IsWhether b (IsStraightCode (length fields) (length vars) (Other ∷ Other ∷ []) first.code))
+      → IfOk r (λ b. IsWhether b (IsStraight u))
+  whole-decides fields vars r of_class of_table named numbers statements of_main of_run small told =
+      let decided = IfOk-weaker r _ (λ b. IsWhether b (IsStraightCode (length fields) (length vars) (Other ∷ Other ∷ []) (routine u table run).code))
+      (λ b h. h (routine u table run) (whole-routine named of_main of_run)) told in
+      let with_fields = subst (λ (fs : List FieldDecl). IfOk r (λ b. IsWhether b (IsStraightCode (length fs) (length vars) (Other ∷ Other ∷ []) (routine u table run).code))) of_class decided in
+      let with_vars = subst (λ (vs : List VarInfo). IfOk r (λ b. IsWhether b (IsStraightCode (length class.fields) (length vs) (Other ∷ Other ∷ []) (routine u table run).code))) of_table with_fields in
+      code-decides u class run table (subst (λ (q : Listing). q.classes ≡ class ∷ []) same one_class) one_method one_table r (names named).0 (names named).1 (names named).2
+      (subst (λ (l : List FieldDecl). AllLong l) of_class numbers) (subst (λ (q : Listing). AllStraight q.stmts) same statements) of_main of_run small with_vars

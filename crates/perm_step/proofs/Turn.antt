@@ -3,7 +3,7 @@ use Rattle.std.proofs.Common.{◌≡◌, ℕ, suc, List, [], Option, Some, refl,
 use Rattle.perm_tree.specs.declared.ast.Span.{Span}
 use Rattle.perm_tree.specs.declared.errors.TrapKind.{TrapKind}
 use Rattle.perm_tree.specs.Code.{Argument, Code, End, Give, Return, Do, If, While, Par, Recover, Instruction, UnitCode}
-use Rattle.perm_meaning.specs.declared.End.TheVariants.{Done, Trap as TrapEnd, OutOfTurns, HeapFull}
+use Rattle.perm_meaning.specs.declared.End.TheVariants.{OutOfTurns}
 use Rattle.perm_meaning.specs.Custody.{Copies}
 use Rattle.perm_meaning.specs.Effects.{Act, Halts, Effect, Does}
 use Rattle.perm_meaning.specs.Expressions.{value_of}
@@ -15,10 +15,12 @@ use Rattle.perm_meaning.specs.WordHeap as word_heap
 use Rattle.perm_meaning.specs.WordHeap.{NoMark, Ask, State, worded, memory, find, after}
 use Rattle.perm_meaning.specs.Words.{words as on_words}
 use Rattle.perm_meaning.proofs.Leads.{stay, one}
-use Rattle.perm_step.specs.declared.machine.Halt.{Halt}
-use Rattle.perm_step.specs.declared.machine.Halt.TheVariants.{Ended, NoMemory}
-use Rattle.perm_step.specs.Rounds.{IsTrap, GoesOnBy, HaltsBy, effect_of, ComesTo, HaltsFrom}
-use Rattle.perm_step.specs.Workspace.{Workspace, cells_of, own_of, branch_of, state_of}
+use Rattle.perm_step.specs.declared.machine.Halt.TheVariants.{Ended}
+use Rattle.perm_step.specs.declared.machine.Shortage.TheVariants as shortages
+use Rattle.perm_step.specs.declared.machine.Stop.{Stop}
+use Rattle.perm_step.specs.declared.machine.Stop.TheVariants as stops
+use Rattle.perm_step.specs.Rounds.{GoesOnBy, StopsBy, effect_of, halt_of, ComesTo, HaltsFrom}
+use Rattle.perm_step.specs.Workspace.{Workspace, locals, cells_of, own_of, branch_of, state_of}
 
 -- no block ends where nothing stands below the code
 settled-nil : (u : UnitCode) (b : word_heap.Branch) (vs : List ℕ) (c : Code) → settled (worded Copies u) b vs c [] ≡ record b { own = record b.own { vars = vs }; code = c; stack = [] }
@@ -63,37 +65,32 @@ module _ (u : UnitCode) where
     turn_goes o told new does by = go (subst (λ (e : Effect ℕ ℕ NoMark). GoesOnBy u e m new) does by)
       where
         go : GoesOnBy u (Does o told) m new → (on u m.limit before ≡ Some (state_of u new rest)) × (new.limit ≡ m.limit)
-        go (v, found, acts, cells, turns, limit) = (
+        go (v, found, acts, cells, keeps) = (
           event o told v does found
               ∙ ap (reached o) acts
-              ∙ (λ j. let s : State = record { task = Leaf (settled-nil u (record (branch_of u full (Do at i rest)) { own = own_of u new; turns = m.turns }) new.vars rest j); heap = after (within m.limit) o (cells_of m.words) } in Some s)
-              ∙ (λ j. let s : State = record { task = Leaf (record (branch_of u new rest) { turns = sym turns j }); heap = cells j } in Some s),
-          limit,
+              ∙ (λ j. let s : State = record { task = Leaf (settled-nil u (record (branch_of u full (Do at i rest)) { own = own_of u new; turns = m.turns }) (locals new) rest j); heap = after (within m.limit) o (cells_of m.words) } in Some s)
+              ∙ (λ j. let s : State = record { task = Leaf (record (branch_of u new rest) { turns = sym keeps.turns j }); heap = cells j } in Some s),
+          keeps.limit,
         )
 
-    -- it halts as the event does
-    pub turn_halts : (o : Ask) (told : ℕ → Act ℕ NoMark) (new : Workspace) (e : Halt) → eff ≡ Does o told → HaltsBy u at eff m new e → HaltsFrom u m.limit before new e
-    turn_halts o told new e does by = go e (subst (λ (x : Effect ℕ ℕ NoMark). HaltsBy u at x m new e) does by)
+    -- it stops as the event does
+    pub turn_stops : (o : Ask) (told : ℕ → Act ℕ NoMark) (new : Workspace) (e : Stop) → eff ≡ Does o told → StopsBy eff m new e → HaltsFrom u m.limit before new (halt_of e at)
+    turn_stops o told new e does by = go e (subst (λ (x : Effect ℕ ℕ NoMark). StopsBy x m new e) does by)
       where
-        trapped : (v : ℕ) (k : TrapKind) (span : Span) → find (within m.limit) o (cells_of m.words) ≡ Found v → told v ≡ Halts k → span ≡ at → after (within m.limit) o (cells_of m.words) ≡ cells_of m.words → new ≡ m
-            → ComesTo u m.limit before new (Failed (Trapped k span) new.turns new.printed)
-        trapped v k span found acts here cells same =
+        trapped : (v : ℕ) (k : TrapKind) → find (within m.limit) o (cells_of m.words) ≡ Found v → told v ≡ Halts k → after (within m.limit) o (cells_of m.words) ≡ cells_of m.words → new ≡ m
+            → ComesTo u m.limit before new (Failed (Trapped k at) new.turns new.printed)
+        trapped v k found acts cells same =
             subst
-            (λ (w : Workspace). ComesTo u m.limit before w (Failed (Trapped k span) w.turns w.printed))
+            (λ (w : Workspace). ComesTo u m.limit before w (Failed (Trapped k at) w.turns w.printed))
             (sym same)
-            (subst
-            (λ (x : Span). ComesTo u m.limit before m (Failed (Trapped k x) m.turns m.printed))
-            (sym here)
             (let t : State = record { task = done (worded Copies u) (branch_of u full (Do at i rest)) m.turns (acted on_words Copies at rest [] (Halts k)); heap = after (within m.limit) o (cells_of m.words) } in
-            (t, one (worded Copies u) memory (within m.limit) before t (event o told v does found ∙ ap (reached o) acts), refl, cells)))
+            (t, one (worded Copies u) memory (within m.limit) before t (event o told v does found ∙ ap (reached o) acts), refl, cells))
 
-        go : (e : Halt) → HaltsBy u at (Does o told) m new e → HaltsFrom u m.limit before new e
-        go NoMemory h = tt
-        go (Ended (Done n)) h = absurd h
-        go (Ended OutOfTurns) h = absurd h
-        go (Ended HeapFull) h =
+        go : (e : Stop) → StopsBy (Does o told) m new e → HaltsFrom u m.limit before new (halt_of e at)
+        go (stops.Short shortages.NoMemory) h = tt
+        go (stops.Short shortages.HeapFull) h =
             (before, o, stay (worded Copies u) memory (within m.limit) before, ap (λ x. turn_op (worded Copies u) (turn_of on_words Copies at rest [] x)) does, h.0)
-        go (Ended (TrapEnd k span)) (v, found, acts, here, cells, same) = trapped v k span found acts here cells same
+        go (stops.Trap k) (v, found, acts, cells, same) = trapped v k found acts cells same
 
     -- no turn is left for it
     pub turn_lacks : (old new : Workspace) → old.turns ≡ 0 → new ≡ old → HaltsFrom u old.limit (state_of u old (Do at i rest)) new (Ended OutOfTurns)
@@ -117,23 +114,15 @@ module _ (u : UnitCode) where
     abbrev return_turn : Eval ℕ → Turn ℕ NoMark Ask
     return_turn e = on_value on_words Copies e at (λ v. returned on_words Copies v [] (own_of u m))
 
-    return_event : (e : Eval ℕ) (d : Did ℕ NoMark) → value_of on_words a m.vars ≡ e → return_turn e ≡ tick on_words Copies d → on u m.limit back ≡ Some (ended_by d)
+    return_event : (e : Eval ℕ) (d : Did ℕ NoMark) → value_of on_words a (locals m) ≡ e → return_turn e ≡ tick on_words Copies d → on u m.limit back ≡ Some (ended_by d)
     return_event e d is turn =
-        let is_tick : return_turn (value_of on_words a m.vars) ≡ tick on_words Copies d = ap return_turn is ∙ turn in
+        let is_tick : return_turn (value_of on_words a (locals m)) ≡ tick on_words Copies d = ap return_turn is ∙ turn in
         ap (λ t. asked_with_care (worded Copies u) memory (within m.limit) back Here (turn_op (worded Copies u) t)) is_tick
         ∙ ap (λ t. let s : State = record { task = told_to (worded Copies u) (branch_of u (record m { turns = suc m.turns }) (Return at a)) m.turns t (Some 0); heap = cells_of m.words } in Some s) is_tick
 
     -- the run ends with the value
-    pub return_goes : (v : ℕ) → value_of on_words a m.vars ≡ Gives v → ComesTo u m.limit back m (GaveBack v m.turns m.printed)
+    pub return_goes : (v : ℕ) → value_of on_words a (locals m) ≡ Gives v → ComesTo u m.limit back m (GaveBack v m.turns m.printed)
     return_goes v is = (ended_by (Ends v), one (worded Copies u) memory (within m.limit) back (ended_by (Ends v)) (return_event (Gives v) (Ends v) is refl), refl, refl)
-
-    -- it halts as the value does
-    pub return_halts : (v : ℕ) (e : Halt) → value_of on_words a m.vars ≡ Gives v → IsTrap at (value_of on_words a m.vars) e → HaltsFrom u m.limit back m e
-    return_halts v e is trap = go e (subst (λ (x : Eval ℕ). IsTrap at x e) is trap)
-      where
-        go : (e : Halt) → IsTrap at (Gives v) e → HaltsFrom u m.limit back m e
-        go NoMemory h = tt
-        go (Ended e) h = absurd h
 
     -- no turn is left for it
     pub return_lacks : (old new : Workspace) → old.turns ≡ 0 → new ≡ old → HaltsFrom u old.limit (state_of u old (Return at a)) new (Ended OutOfTurns)

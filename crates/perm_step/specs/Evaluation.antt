@@ -1,22 +1,16 @@
--- What evaluation answers, and what the names of a scope stand for.
-use Rattle.std.specs.Prelude.{◌≡◌, ℕ, ◌-◌, List, length, get_or, slice_get, Option, Some, None}
-use Rattle.perm_tree.specs.declared.ast.ClassDecl.{ClassDecl}
-use Rattle.perm_tree.specs.declared.ast.Expr.{Expr}
-use Rattle.perm_tree.specs.declared.ast.Expr.TheVariants.{Unary, Binary}
-use Rattle.perm_tree.specs.declared.ast.Shape.TheVariants.{Class}
-use Rattle.perm_tree.specs.declared.ast.Ty.{Ty}
-use Rattle.perm_tree.specs.declared.ast.Ty.TheVariants.{Ref}
-use Rattle.perm_tree.specs.declared.unit.VarInfo.{VarInfo}
-use Rattle.perm_tree.specs.Code.{NullLit}
-use Rattle.perm_tree.specs.CodeOf.{terms_of}
-use Rattle.perm_tree.specs.Places.{Listing}
+-- What evaluation answers.
+use Rattle.std.specs.Prelude.{◌≡◌, ℕ, ◌+◌, ◌-◌, ◌<◌, ◌≤◌, List, length, get_or}
+use Rattle.perm_tree.specs.declared.bodies.Operation.{Operation}
+use Rattle.perm_tree.specs.declared.bodies.Expression.{Expression}
+use Rattle.perm_tree.specs.declared.bodies.Expression.TheVariants.{Operations}
+use Rattle.perm_tree.specs.BodyTerms.{operation_terms}
+use Rattle.perm_tree.specs.Code.{Term, NullLit}
 use Rattle.perm_meaning.specs.Expressions.{eval}
 use Rattle.perm_meaning.specs.Values.{Eval, Gives, Traps, Mistyped}
 use Rattle.perm_meaning.specs.Words.{words}
-use Rattle.perm_step.specs.declared.eval.Value.{Value}
-use Rattle.perm_step.specs.declared.eval.Value.TheVariants.{Word, Trap}
+use Rattle.perm_step.specs.declared.values.Value.{Value}
+use Rattle.perm_step.specs.declared.values.Value.TheVariants.{Word, Trap}
 
--- ---------- expressions ----------
 -- what an expression gives that has this value
 abbrev pub as_eval : Value → Eval ℕ
 as_eval (Word w) = Gives w
@@ -28,27 +22,19 @@ IsAnswer (Gives w) v = as_eval v ≡ Gives w
 IsAnswer (Traps k) v = as_eval v ≡ Traps k
 IsAnswer Mistyped v = Unit {0}
 
--- what the expression at a place gives, with the variables of one method and their words
-abbrev pub gives_at : Listing → List VarInfo → List ℕ → ℕ → Eval ℕ
-gives_at p vars held at = eval words (get_or (terms_of vars p.exprs) at NullLit) held
+-- the first so many values are those of the terms, where the variables hold these words
+abbrev pub AreValues : List ℕ → List Term → ℕ → List Value → Type 0
+AreValues held terms count values = (k : ℕ) → k < count → IsAnswer (eval words (get_or terms k NullLit) held) (get_or values k (Word 0))
 
--- the value at a place, of those from a low place on
-abbrev pub value_at : ℕ → List Value → ℕ → Value
-value_at low done at = get_or done (at - low) (Word 0)
+-- of so many values this is the last
+abbrev pub IsLast : ℕ → Value → List Value → Type 0
+IsLast count last values = (k : ℕ) → k + 1 ≡ count → last ≡ get_or values k (Word 0)
 
--- the operands of an expression have the values that are found for them
-abbrev pub HasOperands : (ℕ → Eval ℕ) → (ℕ → Value) → Expr → Type 0
-HasOperands gives found (Unary op a) = IsAnswer (gives a) (found a)
-HasOperands gives found (Binary op a b) = IsAnswer (gives a) (found a) × IsAnswer (gives b) (found b)
-HasOperands gives found _ = Unit {0}
+-- the term of the last of some operations
+abbrev pub last_term : List Operation → Term
+last_term run = get_or (operation_terms run) (length run - 1) NullLit
 
--- ---------- names ----------
--- the class that a type refers to
-abbrev pub class_of : Listing → Option Ty → Option ClassDecl
-class_of p (Some (Ref q (Class k))) = slice_get p.classes k
-class_of p _ = None
-
--- the number of fields of a class that is there
-abbrev pub field_count : Option ClassDecl → ℕ
-field_count None = 0
-field_count (Some c) = length c.fields
+-- so many values are enough for the operations of an expression
+abbrev pub HasRoomFor : ℕ → Expression → Type 0
+HasRoomFor room (Operations first count) = count ≤ room
+HasRoomFor room _ = Unit {0}

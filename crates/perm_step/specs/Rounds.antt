@@ -1,22 +1,18 @@
 -- What the interpreter's methods do, as the word machine says it.
-use Rattle.std.specs.Prelude.{◌≡◌, ℕ, ℤ, suc, ◌+◌, ◌<◌, ◌^◌, ◌&&◌, ◌⊎◌, List, length, get_or, map, cond, slice_get, slice_set, Some, ◌≤◌, ◌-◌, [], replicate, Result, Ok, Err}
-use Rattle.perm_tree.specs.declared.ast.Arg.{Arg}
-use Rattle.perm_tree.specs.declared.ast.Arg.TheVariants.{Expr as Plain, Consume}
-use Rattle.perm_tree.specs.declared.ast.Ident.{Ident}
-use Rattle.perm_tree.specs.declared.ast.Method.{Method}
-use Rattle.perm_tree.specs.declared.ast.Rhs.{Rhs}
-use Rattle.perm_tree.specs.declared.ast.Rhs.TheVariants.{Field, New}
+use Rattle.std.specs.Prelude.{◌≡◌, ℕ, ℤ, suc, ◌+◌, ◌<◌, ◌≤◌, ◌-◌, ◌⊎◌, List, [], length, get_or, replicate, slice_get, slice_set, Some, Result, Ok, Err}
 use Rattle.perm_tree.specs.declared.ast.Span.{Span}
-use Rattle.perm_tree.specs.declared.ast.StmtKind.{StmtKind}
-use Rattle.perm_tree.specs.declared.ast.StmtKind.TheVariants.{Assign as AssignStmt, SetField, Print as PrintStmt}
-use Rattle.perm_tree.specs.declared.ast.Ty.{Ty}
+use Rattle.perm_tree.specs.declared.bodies.Action.{Action}
+use Rattle.perm_tree.specs.declared.bodies.Action.TheVariants as actions
+use Rattle.perm_tree.specs.declared.bodies.Argument.{Argument}
+use Rattle.perm_tree.specs.declared.bodies.Argument.TheVariants as handed
+use Rattle.perm_tree.specs.declared.bodies.Bodies.{Bodies}
+use Rattle.perm_tree.specs.declared.bodies.Entry.{Entry}
+use Rattle.perm_tree.specs.declared.bodies.Step.{Step}
+use Rattle.perm_tree.specs.declared.errors.TrapKind.{TrapKind}
 use Rattle.perm_tree.specs.declared.errors.TrapKind.TheVariants.{NullReference}
-use Rattle.perm_tree.specs.declared.unit.VarInfo.{VarInfo}
-use Rattle.perm_tree.specs.CodeOf.{terms_of, setting, argument, block_code, routine, code_of}
-use Rattle.perm_tree.specs.Code.{Term, NullLit, Argument, Expression, Consumed, Code, Return, Instruction, Declare, NewObject, LoadField, LoadLength, StoreField, Print, UnitCode}
-use Rattle.perm_tree.specs.Lookup.{var_place, var_ty, class_place, field_place, is_array}
-use Rattle.perm_tree.specs.Places.{Listing}
-use Rattle.perm_tree.specs.Spelling.{length_word, is_word}
+use Rattle.perm_tree.specs.Code.{Code, Instruction, NewObject, LoadField, StoreField, Print, UnitCode}
+use Rattle.perm_tree.specs.CodeOf.{routine, code_of}
+use Rattle.perm_tree.specs.Links.{AreBodies}
 use Rattle.perm_tree.specs.UnitTables.{Tables}
 use Rattle.perm_meaning.specs.declared.End.{End}
 use Rattle.perm_meaning.specs.declared.End.TheVariants.{Done, Trap, OutOfTurns, HeapFull}
@@ -34,9 +30,14 @@ use Rattle.perm_meaning.specs.WordHeap.{NoMark, Ask, State, no_marks, worded, me
 use Rattle.perm_meaning.specs.Words.{number_in, reference_in, words as on_words}
 use Rattle.perm_step.specs.declared.machine.Halt.{Halt}
 use Rattle.perm_step.specs.declared.machine.Halt.TheVariants.{Ended, NoMemory}
+use Rattle.perm_step.specs.declared.machine.Shortage.{Shortage}
+use Rattle.perm_step.specs.declared.machine.Shortage.TheVariants as shortages
+use Rattle.perm_step.specs.declared.machine.Stop.{Stop}
+use Rattle.perm_step.specs.declared.machine.Stop.TheVariants as stops
 use Rattle.perm_step.specs.declared.straight.Holds.{Holds}
+use Rattle.perm_step.specs.Evaluation.{HasRoomFor}
 use Rattle.perm_step.specs.Straight.{AnObject, IsStraight, IsStraightCode}
-use Rattle.perm_step.specs.Workspace.{Workspace, cells_of, own_of, state_of}
+use Rattle.perm_step.specs.Workspace.{Workspace, locals, cells_of, own_of, state_of}
 
 -- ---------- values ----------
 -- the word is what an expression gives; nothing is said of one that is mistyped
@@ -45,89 +46,55 @@ IsGiven (Gives w) word = word ≡ w
 IsGiven (Traps k) word = ⊥
 IsGiven Mistyped word = Unit {0}
 
--- it traps, or memory runs out
-abbrev pub IsTrap : Span → Eval ℕ → Halt → Type 0
-IsTrap at Mistyped e = Unit {0}
-IsTrap at (Gives w) (Ended e) = ⊥
-IsTrap at (Gives w) NoMemory = Unit {0}
-IsTrap at (Traps k) (Ended e) = e ≡ Trap k at
-IsTrap at (Traps k) NoMemory = Unit {0}
+-- it traps so
+abbrev pub IsTrap : Eval ℕ → TrapKind → Type 0
+IsTrap (Gives w) kind = ⊥
+IsTrap (Traps k) kind = kind ≡ k
+IsTrap Mistyped kind = Unit {0}
 
--- ---------- instructions ----------
--- the term of the expression at a place, with the variables of one method
-abbrev pub term_in : Listing → List VarInfo → ℕ → Term
-term_in p vars at = get_or (terms_of vars p.exprs) at NullLit
+-- ---------- steps ----------
+-- so many values are enough for an argument
+abbrev pub HasRoomForArgument : ℕ → Argument → Type 0
+HasRoomForArgument room (handed.Expression e) = HasRoomFor room e
+HasRoomForArgument room (handed.Consume y) = Unit {0}
 
--- an argument with its names resolved
-abbrev pub argument_in : Listing → List VarInfo → Arg → Argument
-argument_in p vars (Plain e) = Expression (term_in p vars e)
-argument_in p vars (Consume y) = Consumed (var_place vars y)
+-- for the expressions of a step
+abbrev pub HasRoomForStep : ℕ → Action → Type 0
+HasRoomForStep room (actions.Assign x a) = HasRoomForArgument room a
+HasRoomForStep room (actions.LoadItem x y e) = HasRoomFor room e
+HasRoomForStep room (actions.NewArray x e) = HasRoomFor room e
+HasRoomForStep room (actions.StoreField y f a) = HasRoomForArgument room a
+HasRoomForStep room (actions.StoreItem y i e) = HasRoomFor room i × HasRoomFor room e
+HasRoomForStep room (actions.Print e) = HasRoomFor room e
+HasRoomForStep room (actions.If e other) = HasRoomFor room e
+HasRoomForStep room (actions.While e body) = HasRoomFor room e
+HasRoomForStep room (actions.Return a) = HasRoomForArgument room a
+HasRoomForStep room action = Unit {0}
 
--- `Length` of an array is no field
-abbrev pub read_in : Listing → List VarInfo → ℕ → Ident → Ident → Instruction
-read_in p vars x y f =
-    cond (is_array (var_ty vars (var_place vars y)) && is_word p.names length_word f.name)
-    (LoadLength x (var_place vars y))
-    (LoadField x (var_place vars y) (field_place p (var_ty vars (var_place vars y)) f.name))
+-- for all steps
+abbrev pub HasRoomForAll : ℕ → List Step → Type 0
+HasRoomForAll room steps = (p : ℕ) (s : Step) → slice_get steps p ≡ Some s → HasRoomForStep room s.action
 
--- what an assignment to x asks for
-abbrev pub assignment_in : Listing → List VarInfo → ℕ → Rhs → Instruction
-assignment_in p vars x (Field y f) = read_in p vars x y f
-assignment_in p vars x (New c) = NewObject x (class_place p c.name)
-assignment_in p vars x r = Declare x
-
--- what a store asks for
-abbrev pub store_in : Listing → List VarInfo → Ident → Ident → Arg → Instruction
-store_in p vars y f a = StoreField (var_place vars y) (field_place p (var_ty vars (var_place vars y)) f.name) (argument_in p vars a)
-
--- what a statement asks for that the interpreter knows
-abbrev pub instruction_in : Listing → List VarInfo → StmtKind → Instruction
-instruction_in p vars (AssignStmt t x r) = assignment_in p vars (var_place vars x) r
-instruction_in p vars (SetField y f a) = store_in p vars y f a
-instruction_in p vars (PrintStmt e) = Print (term_in p vars e)
-instruction_in p vars s = Declare 0
-
--- the right sides that the interpreter knows
-abbrev pub IsKnownRhs : Rhs → Type 0
-IsKnownRhs (New c) = Unit {0}
-IsKnownRhs (Field y f) = Unit {0}
-IsKnownRhs _ = ⊥
-
--- the statements that it knows
-abbrev pub IsKnown : StmtKind → Type 0
-IsKnown (AssignStmt t x r) = IsKnownRhs r
-IsKnown (SetField y f a) = Unit {0}
-IsKnown (PrintStmt e) = Unit {0}
-IsKnown _ = ⊥
-
--- the types of the fields of each class
-abbrev pub class_types : Listing → List (List Ty)
-class_types p = map (λ c. map (λ f. f.ty) c.fields) p.classes
+-- the statements that the interpreter knows
+abbrev pub IsKnown : Action → Type 0
+IsKnown (actions.LoadField x y f) = Unit {0}
+IsKnown (actions.NewObject x class fields) = Unit {0}
+IsKnown (actions.StoreField y f a) = Unit {0}
+IsKnown (actions.Print e) = Unit {0}
+IsKnown action = ⊥
 
 -- ---------- places ----------
 -- the place of a field's word, by what its variable refers to
 abbrev pub IsPlaceBy : Referred ℕ → ℕ → ℕ → Type 0
-IsPlaceBy (ToObject base len) f place = f < 2 ^ 32 → place ≡ base + f
+IsPlaceBy (ToObject base len) f place = place ≡ base + f
 IsPlaceBy ToNull f place = ⊥
 IsPlaceBy NoReference f place = Unit {0}
 
--- the same by the variable's value
-abbrev pub IsPlace : Eval ℕ → ℕ → ℕ → Type 0
-IsPlace (Gives w) f place = IsPlaceBy (reference_in w) f place
-IsPlace (Traps k) f place = Unit {0}
-IsPlace Mistyped f place = Unit {0}
-
 -- the variable is null
-abbrev pub IsNullBy : Span → Referred ℕ → Halt → Type 0
-IsNullBy at (ToObject base len) e = ⊥
-IsNullBy at ToNull e = e ≡ Ended (Trap NullReference at)
-IsNullBy at NoReference e = Unit {0}
-
--- the same by the variable's value
-abbrev pub IsNull : Span → Eval ℕ → Halt → Type 0
-IsNull at (Gives w) e = IsNullBy at (reference_in w) e
-IsNull at (Traps k) e = Unit {0}
-IsNull at Mistyped e = Unit {0}
+abbrev pub IsNullBy : Referred ℕ → TrapKind → Type 0
+IsNullBy (ToObject base len) kind = ⊥
+IsNullBy ToNull kind = kind ≡ NullReference
+IsNullBy NoReference kind = Unit {0}
 
 -- ---------- one turn ----------
 -- the word of a field is there, by what its variable refers to
@@ -142,30 +109,35 @@ IsThere (Gives w) f given = IsThereBy (reference_in w) f given
 IsThere (Traps k) f given = Unit {0}
 IsThere Mistyped f given = Unit {0}
 
--- the interpreter knows the instruction, its field has a number, and the word that it stores to is there
+-- the interpreter knows the instruction, and the word that it stores to is there
 abbrev pub IsReady : Workspace → Instruction → Type 0
 IsReady m (NewObject x c) = Unit {0}
-IsReady m (LoadField x y f) = f < 2 ^ 32
-IsReady m (StoreField y f a) = (f < 2 ^ 32) × IsThere (look_up on_words m.vars y) f (length m.words)
+IsReady m (LoadField x y f) = Unit {0}
+IsReady m (StoreField y f a) = IsThere (look_up on_words (locals m) y) f (length m.words)
 IsReady m (Print e) = Unit {0}
 IsReady m _ = ⊥
+
+-- what a simple statement leaves as it is
+pub record KeepsPlace (old new : Workspace) : Type 0 where
+  pub at : new.at ≡ old.at
+  pub base : new.base ≡ old.base
+  pub room : new.room ≡ old.room
+  pub turns : new.turns ≡ old.turns
+  pub limit : new.limit ≡ old.limit
 
 -- the interpreter goes on as the effect of a statement says; nothing is said where that is stuck
 abbrev pub GoesOnBy : UnitCode → Effect ℕ ℕ NoMark → Workspace → Workspace → Type 0
 GoesOnBy u Sticks old new = Unit {0}
 GoesOnBy u (Does o told) old new =
-    (v : ℕ) × (find (within old.limit) o (cells_of old.words) ≡ Found v) × (told v ≡ GoesOn (own_of u new)) × (after (within old.limit) o (cells_of old.words) ≡ cells_of new.words)
-    × (new.turns ≡ old.turns) × (new.limit ≡ old.limit)
+    (v : ℕ) × (find (within old.limit) o (cells_of old.words) ≡ Found v) × (told v ≡ GoesOn (own_of u new)) × (after (within old.limit) o (cells_of old.words) ≡ cells_of new.words) × KeepsPlace old new
 
--- it halts as the effect of a statement says: by a trap, or since the heap refuses an allocation; nothing is said where memory runs out
-abbrev pub HaltsBy : UnitCode → Span → Effect ℕ ℕ NoMark → Workspace → Workspace → Halt → Type 0
-HaltsBy u at Sticks old new e = Unit {0}
-HaltsBy u at (Does o told) old new NoMemory = Unit {0}
-HaltsBy u at (Does o told) old new (Ended (Done n)) = ⊥
-HaltsBy u at (Does o told) old new (Ended OutOfTurns) = ⊥
-HaltsBy u at (Does o told) old new (Ended HeapFull) = (find (within old.limit) o (cells_of old.words) ≡ Refused) × (new ≡ old)
-HaltsBy u at (Does o told) old new (Ended (Trap k span)) =
-    (v : ℕ) × (find (within old.limit) o (cells_of old.words) ≡ Found v) × (told v ≡ Halts k) × (span ≡ at) × (after (within old.limit) o (cells_of old.words) ≡ cells_of old.words) × (new ≡ old)
+-- it stops as the effect of a statement says: by a trap, or since the heap refuses an allocation; nothing is said where memory runs out
+abbrev pub StopsBy : Effect ℕ ℕ NoMark → Workspace → Workspace → Stop → Type 0
+StopsBy Sticks old new e = Unit {0}
+StopsBy (Does o told) old new (stops.Short shortages.NoMemory) = Unit {0}
+StopsBy (Does o told) old new (stops.Short shortages.HeapFull) = (find (within old.limit) o (cells_of old.words) ≡ Refused) × (new ≡ old)
+StopsBy (Does o told) old new (stops.Trap k) =
+    (v : ℕ) × (find (within old.limit) o (cells_of old.words) ≡ Found v) × (told v ≡ Halts k) × (after (within old.limit) o (cells_of old.words) ≡ cells_of old.words) × (new ≡ old)
 
 -- the effect of an instruction on these variables
 abbrev pub effect_of : UnitCode → Instruction → Workspace → Effect ℕ ℕ NoMark
@@ -175,17 +147,28 @@ effect_of u i m = effect on_words u no_marks i (own_of u m)
 abbrev pub Performs : UnitCode → Instruction → Workspace → Workspace → Type 0
 Performs u i old new = IsReady old i → GoesOnBy u (effect_of u i old) old new
 
--- it halts as the instruction says
-abbrev pub Stops : UnitCode → Span → Instruction → Workspace → Workspace → Halt → Type 0
-Stops u at i old new e = IsReady old i → HaltsBy u at (effect_of u i old) old new e
+-- it stops as the instruction says
+abbrev pub Stops : UnitCode → Instruction → Workspace → Workspace → Stop → Type 0
+Stops u i old new e = IsReady old i → StopsBy (effect_of u i old) old new e
 
--- a turn is spent, and the instruction done
-abbrev pub TakesTurn : UnitCode → Instruction → Workspace → Workspace → Type 0
-TakesTurn u i old new = (left : ℕ) × (old.turns ≡ suc left) × Performs u i (record old { turns = left }) new
+-- why a run goes no further that gets no more words
+abbrev pub halt_short : Shortage → Halt
+halt_short shortages.HeapFull = Ended HeapFull
+halt_short shortages.NoMemory = NoMemory
 
--- no turn is left, or the instruction halts the turn that is spent
+-- why it goes no further that has come to a statement with this span
+abbrev pub halt_of : Stop → Span → Halt
+halt_of (stops.Trap k) at = Ended (Trap k at)
+halt_of (stops.Short s) at = halt_short s
+
+-- a turn is spent, and the instruction done, and the next step is this
+abbrev pub TakesTurn : UnitCode → Instruction → ℕ → Workspace → Workspace → Type 0
+TakesTurn u i next old new = (left : ℕ) × (mid : Workspace) × (old.turns ≡ suc left) × Performs u i (record old { turns = left }) mid × (new ≡ record mid { at = next })
+
+-- no turn is left, or the instruction stops the turn that is spent
 abbrev pub LosesTurn : UnitCode → Span → Instruction → Workspace → Workspace → Halt → Type 0
-LosesTurn u at i old new e = ((old.turns ≡ 0) × (e ≡ Ended OutOfTurns) × (new ≡ old)) ⊎ ((left : ℕ) × (old.turns ≡ suc left) × Stops u at i (record old { turns = left }) new e)
+LosesTurn u at i old new e =
+    ((old.turns ≡ 0) × (e ≡ Ended OutOfTurns) × (new ≡ old)) ⊎ ((left : ℕ) × (stop : Stop) × (old.turns ≡ suc left) × (e ≡ halt_of stop at) × Stops u i (record old { turns = left }) new stop)
 
 -- ---------- many turns ----------
 -- the word machine, left first, comes from a state to an end, and to these words
@@ -206,18 +189,10 @@ HaltsFrom u limit s m (Ended OutOfTurns) = ComesTo u limit s m (Failed NoTurns m
 HaltsFrom u limit s m (Ended HeapFull) = Fills u limit s
 
 -- ---------- straight code ----------
--- a unit of this program, whose first class has few fields
-pub record Setup (p : Listing) : Type 0 where
-  pub tables : Tables
-  pub types : List Ty
-  pub of_program : tables.program ≡ p
-  pub class : slice_get (class_types p) 0 ≡ Some types
-  pub few : length types ≤ 256
-
 -- variables that hold objects hold references to words that are there
 pub record Kept (fields variables : ℕ) (holds : List Holds) (m : Workspace) : Type 0 where
-  pub all : length m.vars ≡ variables
-  pub objects : (y : ℕ) → slice_get holds y ≡ Some AnObject → (base : ℕ) × (slice_get m.vars y ≡ Some (suc base)) × (base + size fields ≤ length m.words)
+  pub all : length (locals m) ≡ variables
+  pub objects : (y : ℕ) → slice_get holds y ≡ Some AnObject → (base : ℕ) × (slice_get (locals m) y ≡ Some (suc base)) × (base + size fields ≤ length m.words)
   pub room : length m.words ≤ m.limit
   pub small : m.limit ≤ 4194304
 
@@ -229,39 +204,10 @@ KeptAt fields variables m code = (holds : List Holds) × IsStraightCode fields v
 abbrev pub Goes : UnitCode → Workspace → Code → Workspace → Code → Type 0
 Goes u old from new to = Leads (worded Copies u) memory (within old.limit) (state_of u old from) (state_of u new to) × (new.limit ≡ old.limit)
 
--- from the statements of a block to those that are left
-abbrev pub GoesThrough : Listing → List VarInfo → Workspace → List ℕ → Workspace → List ℕ → Type 0
-GoesThrough p vars old stmts new rest =
-    (x : Setup p) (end : Code) → KeptAt (length x.types) (length vars) old (block_code (setting x.tables vars) stmts end)
-    → KeptAt (length x.types) (length vars) new (block_code (setting x.tables vars) rest end)
-    × Goes (code_of x.tables) old (block_code (setting x.tables vars) stmts end) new (block_code (setting x.tables vars) rest end)
-
--- it halts within a block as the word machine does
-abbrev pub HaltsWithin : Listing → List VarInfo → Workspace → List ℕ → Workspace → Halt → Type 0
-HaltsWithin p vars old stmts new e =
-    (x : Setup p) (end : Code) → KeptAt (length x.types) (length vars) old (block_code (setting x.tables vars) stmts end)
-    → HaltsFrom (code_of x.tables) old.limit (state_of (code_of x.tables) old (block_code (setting x.tables vars) stmts end)) new e
-
 -- ---------- a whole run ----------
--- the code of a method's body with its return
-abbrev pub body_code : Tables → List VarInfo → Method → Code
-body_code t vars run = block_code (setting t vars) run.body.stmts (Return run.span (argument (setting t vars) run.back))
-
--- the body has given back a word
-abbrev pub GivesBack : Listing → List VarInfo → Method → Workspace → Workspace → ℕ → Type 0
-GivesBack p vars run old new word =
-    (x : Setup p) → KeptAt (length x.types) (length vars) old (body_code x.tables vars run)
-    → ComesTo (code_of x.tables) old.limit (state_of (code_of x.tables) old (body_code x.tables vars run)) new (GaveBack word new.turns new.printed)
-
--- the body has halted
-abbrev pub HaltsInBody : Listing → List VarInfo → Method → Workspace → Workspace → Halt → Type 0
-HaltsInBody p vars run old new e =
-    (x : Setup p) → KeptAt (length x.types) (length vars) old (body_code x.tables vars run)
-    → HaltsFrom (code_of x.tables) old.limit (state_of (code_of x.tables) old (body_code x.tables vars run)) new e
-
 -- the words of the opening: the input array, and the object of Main with so many fields
 pub record IsOpened (fields : ℕ) (input : List ℤ) (old new : Workspace) : Type 0 where
-  pub vars : new.vars ≡ slice_set (slice_set old.vars 0 (root_word input)) 1 (input_word input)
+  pub vars : locals new ≡ slice_set (slice_set (locals old) 0 (root_word input)) 1 (input_word input)
   pub words : (i : ℕ) → get_or new.words i 0 ≡ opening_word input i
   pub given : length new.words ≡ size (length input) + size fields
   pub room : length new.words ≤ old.limit
@@ -269,49 +215,68 @@ pub record IsOpened (fields : ℕ) (input : List ℤ) (old new : Workspace) : Ty
   pub others : new ≡ record old { vars = new.vars; words = new.words }
 
 -- the heap doesn't hold an opening of so many words, or memory runs out
-abbrev pub IsNotOpened : ℕ → ℕ → Halt → Type 0
-IsNotOpened need limit NoMemory = Unit {0}
-IsNotOpened need limit (Ended e) = (e ≡ HeapFull) × (limit < need)
+abbrev pub IsNotOpened : ℕ → ℕ → Shortage → Type 0
+IsNotOpened need limit shortages.NoMemory = Unit {0}
+IsNotOpened need limit shortages.HeapFull = limit < need
 
--- nothing has been done
-abbrev pub IsFresh : ℕ → Workspace → Type 0
-IsFresh variables m = (m.vars ≡ replicate variables 0) × (m.words ≡ []) × (m.printed ≡ []) × (m.limit ≤ 4194304)
+-- a machine that is about to run a straight unit with these bodies, and hasn't done anything
+pub record IsReadyToRun (u : Tables) (b : Bodies) (m : Workspace) : Type 0 where
+  pub straight : IsStraight u
+  pub bodies : AreBodies u b
+  pub entry : Entry
+  pub here : slice_get b.entries b.run ≡ Some entry
+  pub at : m.at ≡ entry.first
+  pub vars : locals m ≡ replicate entry.variables 0
+  pub room : HasRoomForAll m.room b.steps
+  pub words : m.words ≡ []
+  pub printed : m.printed ≡ []
+  pub limit : m.limit ≤ 4194304
 
 -- the run of a straight unit has given back a word
-abbrev pub RunGives : Tables → List ℤ → Workspace → Workspace → ℕ → Type 0
-RunGives u input old new word =
-    (s : IsStraight u) → IsFresh (length s.table.vars) old
-    → NumbersFit input × (opening_need (code_of u) input ≤ old.limit) × ComesTo (code_of u) old.limit (opening_state (code_of u) input old.turns (routine u s.table s.run)) new (GaveBack word new.turns new.printed)
+abbrev pub RunGives : Bodies → List ℤ → Workspace → Workspace → ℕ → Type 0
+RunGives b input old new word =
+    (u : Tables) (x : IsReadyToRun u b old)
+    → NumbersFit input × (opening_need (code_of u) input ≤ old.limit) × ComesTo (code_of u) old.limit (opening_state (code_of u) input old.turns (routine u x.straight.table x.straight.run)) new (GaveBack word new.turns new.printed)
 
 -- it has halted, or never begun
-abbrev pub RunHalts : Tables → List ℤ → Workspace → Workspace → Halt → Type 0
-RunHalts u input old new e =
-    (s : IsStraight u) → IsFresh (length s.table.vars) old
-    → IsNotOpened (opening_need (code_of u) input) old.limit e
-    ⊎ (NumbersFit input × (opening_need (code_of u) input ≤ old.limit) × HaltsFrom (code_of u) old.limit (opening_state (code_of u) input old.turns (routine u s.table s.run)) new e)
+abbrev pub RunHalts : Bodies → List ℤ → Workspace → Workspace → Halt → Type 0
+RunHalts b input old new e =
+    (u : Tables) (x : IsReadyToRun u b old)
+    → ((short : Shortage) × (e ≡ halt_short short) × IsNotOpened (opening_need (code_of u) input) old.limit short)
+    ⊎ (NumbersFit input × (opening_need (code_of u) input ≤ old.limit) × HaltsFrom (code_of u) old.limit (opening_state (code_of u) input old.turns (routine u x.straight.table x.straight.run)) new e)
 
 -- ---------- what is told ----------
--- the end, the printed numbers, the turns spent and the words given
-abbrev pub IsReport : End → Workspace → ℕ → Outcome → Type 0
-IsReport e m turns o = (o.end ≡ e) × (o.printed ≡ m.printed) × (o.spent ≡ turns - m.turns) × (o.need ≡ length m.words)
+-- the end, the printed numbers, the turns spent, and the words of the heap with the root
+pub record IsReport (e : End) (main : ℕ) (m : Workspace) (turns : ℕ) (o : Outcome) : Type 0 where
+  pub ending : o.end ≡ e
+  pub printed : o.printed ≡ m.printed
+  pub spent : o.spent ≡ turns - m.turns
+  pub need : o.need ≡ length m.words
+  pub words : o.words ≡ m.words
+  pub root : o.root ≡ main
 
 -- nothing else is told of a full heap
-abbrev pub IsFull : Outcome → Type 0
-IsFull o = (o.end ≡ HeapFull) × (o.printed ≡ []) × (o.spent ≡ 0) × (o.need ≡ 0)
+pub record IsFull (o : Outcome) : Type 0 where
+  pub ending : o.end ≡ HeapFull
+  pub printed : o.printed ≡ []
+  pub spent : o.spent ≡ 0
+  pub need : o.need ≡ 0
+  pub words : o.words ≡ []
+  pub root : o.root ≡ 0
 
 -- what is told of an end
-abbrev pub IsEnded : End → Workspace → ℕ → Outcome → Type 0
-IsEnded (Done n) m turns o = IsReport (Done n) m turns o
-IsEnded (Trap k at) m turns o = IsReport (Trap k at) m turns o
-IsEnded OutOfTurns m turns o = IsReport OutOfTurns m turns o
-IsEnded HeapFull m turns o = IsFull o
+abbrev pub IsEnded : End → ℕ → Workspace → ℕ → Outcome → Type 0
+IsEnded (Done n) root m turns o = IsReport (Done n) root m turns o
+IsEnded (Trap k at) root m turns o = IsReport (Trap k at) root m turns o
+IsEnded OutOfTurns root m turns o = IsReport OutOfTurns root m turns o
+IsEnded HeapFull root m turns o = IsFull o
 
 -- of a halt; nothing is told where memory runs out
-abbrev pub IsHalted : Halt → Workspace → ℕ → Outcome → Type 0
-IsHalted NoMemory m turns o = ⊥
-IsHalted (Ended e) m turns o = IsEnded e m turns o
+abbrev pub IsHalted : Halt → ℕ → Workspace → ℕ → Outcome → Type 0
+IsHalted NoMemory root m turns o = ⊥
+IsHalted (Ended e) root m turns o = IsEnded e root m turns o
 
 -- of a run
-abbrev pub IsConcluded : Result ℕ Halt → Workspace → ℕ → Outcome → Type 0
-IsConcluded (Ok word) m turns o = IsReport (Done (number_in word)) m turns o
-IsConcluded (Err e) m turns o = IsHalted e m turns o
+abbrev pub IsConcluded : Result ℕ Halt → ℕ → Workspace → ℕ → Outcome → Type 0
+IsConcluded (Ok word) root m turns o = IsReport (Done (number_in word)) root m turns o
+IsConcluded (Err e) root m turns o = IsHalted e root m turns o

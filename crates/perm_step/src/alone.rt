@@ -1,21 +1,20 @@
 //! A whole run on one thread.
 
-ghost use Rattle.std.specs.Prelude.{◌≡◌, ◌+◌, ◌^◌, ◌<◌, ◌≤◌, [], length, slice_get, IfOk, IfErr};
+ghost use Rattle.std.specs.Prelude.{◌≡◌, ◌+◌, ◌^◌, ◌<◌, ◌≤◌, [], length, IfOk, IfErr};
 ghost use Rattle.perm_tree.specs.CodeOf.{code_of};
-ghost use Rattle.perm_tree.specs.Places.{AllBelow, IsPlaced, KindPlaced, MethodPlaced};
+ghost use Rattle.perm_tree.specs.UnitTables.{Tables};
 ghost use Rattle.perm_meaning.specs.Objects.{size};
 ghost use Rattle.perm_meaning.specs.Outcome.{outcome};
-ghost use Rattle.perm_step.specs.Rounds.{GivesBack, GoesThrough, HaltsInBody, HaltsWithin, IsConcluded, IsEnded, IsKnown, IsNotOpened, IsOpened, IsReport, RunGives, RunHalts};
-ghost use Rattle.perm_step.specs.Tells.{Tells};
-ghost use Rattle.perm_step.specs.Straight.{AllStraight, IsStraight};
+ghost use Rattle.perm_meaning.specs.WordHeap.{root_word};
+ghost use Rattle.perm_step.specs.Rounds.{IsConcluded, IsEnded, IsNotOpened, IsOpened, IsReadyToRun, IsReport, RunGives, RunHalts};
+ghost use Rattle.perm_step.specs.Tells.{HasRoot, Tells};
+ghost use Rattle.perm_step.specs.Straight.{IsStraight};
 
-use crate::machine::{Halt, Machine};
-use crate::scope::Scope;
+use crate::machine::{Halt, Machine, Shortage};
 use perm_meaning::{End, Outcome};
-use perm_tree::ast::{Method, Stmt};
+use perm_tree::bodies::{Action, Bodies};
 use perm_tree::errors::NoMemory;
 use perm_tree::list::List;
-use perm_tree::program::Program;
 use perm_tree::unit::Unit;
 use std::alloc::Global;
 
@@ -32,32 +31,43 @@ pub fn run_alone(
     requires turns { turns ≤ 2 ^ 40 }
     requires heap { heap ≤ 4194304 }
     ensures tells { IfOk result (Tells (outcome (code_of unit.now) input.now turns heap)) }
+    ensures root { IfOk result (HasRoot input.now) }
 {
-    let vars = unit.tables()[0].vars.as_slice().len();
-    let mut machine = Machine::new(alloc, vars, turns, heap)?;
-    let ended = run(&mut machine, unit, input);
+    let bodies = unit.bodies();
+    let entry = bodies.entries.as_slice()[bodies.run as usize];
+    let mut machine = Machine::new(
+        alloc,
+        entry.first,
+        entry.variables,
+        bodies.steps.as_slice(),
+        turns,
+        heap,
+    )?;
+    let ended = run(&mut machine, bodies, input);
     conclude(alloc, machine, ended, turns, input.len().max(1) as u64 + 1)
 }
 
 /// The word that `Run` returns.
-fn run(machine: &mut Machine, unit: &Unit, input: &[i64]) -> Result<u64, Halt>
-    requires straight { IsStraight unit.now }
+fn run(machine: &mut Machine, bodies: &Bodies, input: &[i64]) -> Result<u64, Halt>
+    requires ready { (u : Tables) × IsReadyToRun u bodies.now machine.old }
     requires input { length input.now ≤ 524288 }
-    requires fresh { machine.old.words ≡ [] }
-    ensures done { IfOk result (RunGives unit.now input.now machine.old machine.new) }
-    ensures halted { IfErr result (RunHalts unit.now input.now machine.old machine.new) }
+    ensures done { IfOk result (RunGives bodies.now input.now machine.old machine.new) }
+    ensures halted { IfErr result (RunHalts bodies.now input.now machine.old machine.new) }
 {
-    let class = &unit.program().classes()[0];
-    let scope = Scope {
-        program: unit.program(),
-        vars: unit.tables()[0].vars.as_slice(),
-    };
-    begin(machine, class.fields.as_slice().len(), input)?;
-    run_method(machine, scope, &class.methods.as_slice()[0])
+    begin(machine, bodies.fields as usize, input)?;
+    loop {
+        let step = machine.step(bodies);
+        match &step.action {
+            Action::Return(back) => {
+                return machine.give_back(bodies.operations.as_slice(), step.span, back);
+            }
+            _ => machine.turn(bodies, step)?,
+        }
+    }
 }
 
 /// Makes the input array and the object of `Main`.
-fn begin(machine: &mut Machine, fields: usize, input: &[i64]) -> Result<(), Halt>
+fn begin(machine: &mut Machine, fields: usize, input: &[i64]) -> Result<(), Shortage>
     requires input { length input.now ≤ 524288 }
     requires fresh { machine.old.words ≡ [] }
     ensures opened { IfOk result (λ _. IsOpened fields input.now machine.old machine.new) }
@@ -65,47 +75,13 @@ fn begin(machine: &mut Machine, fields: usize, input: &[i64]) -> Result<(), Halt
 {
     machine.allocate(input.len())?;
     machine.write_numbers(input);
-    let root = machine.allocate(fields)?.saturating_add(1);
+    let root = machine.allocate(fields)? + 1;
     machine.set(0, root);
     machine.set_first_array(1, input.len() as u32);
     Ok(())
 }
 
-/// The word that a method returns.
-fn run_method(machine: &mut Machine, scope: Scope<'_>, run: &Method) -> Result<u64, Halt>
-    requires straight { AllStraight scope.program.now.stmts }
-    requires placed { MethodPlaced (length scope.program.now.exprs) (length scope.program.now.stmts) run.now }
-    ensures done { IfOk result (GivesBack scope.entry.program.now scope.entry.vars.now run.now machine.old machine.new) }
-    ensures halted { IfErr result (HaltsInBody scope.entry.program.now scope.entry.vars.now run.now machine.old machine.new) }
-{
-    run_block(machine, scope, run.body.stmts.as_slice())?;
-    machine.give_back(scope, run.span, run.back)
-}
-
-fn run_block(machine: &mut Machine, scope: Scope<'_>, stmts: &[u32]) -> Result<(), Halt>
-    requires straight { AllStraight scope.program.now.stmts }
-    requires placed { AllBelow (length scope.program.now.stmts) stmts.now }
-    ensures done { IfOk result (λ _. GoesThrough scope.entry.program.now scope.entry.vars.now machine.old stmts.now machine.new []) }
-    ensures halted { IfErr result (HaltsWithin scope.entry.program.now scope.entry.vars.now machine.old stmts.now machine.new) }
-{
-    for at in stmts {
-        machine.step(scope, stmt_at(scope.program, *at))?;
-    }
-    Ok(())
-}
-
-fn stmt_at(program: &Program, at: u32) -> &Stmt
-    requires within { at < length program.now.stmts }
-    requires straight { AllStraight program.now.stmts }
-    ensures found { slice_get program.now.stmts at ≡ Some result.now }
-    ensures known { IsKnown result.now.kind }
-    ensures placed { KindPlaced (length program.now.exprs) at result.now.kind }
-    ensures program { IsPlaced program.now }
-{
-    &program.stmts()[at as usize]
-}
-
-/// What is told of a run.
+/// What is told of a run, where the object of `Main` has this reference.
 fn conclude(
     alloc: Global,
     machine: Machine,
@@ -113,7 +89,7 @@ fn conclude(
     turns: u64,
     root: u64,
 ) -> Result<Outcome, NoMemory>
-    ensures { IfOk result (IsConcluded ended machine turns) }
+    ensures { IfOk result (IsConcluded ended root machine turns) }
 {
     match ended {
         Ok(word) => Ok(report(End::Done(word.cast_signed()), machine, turns, root)),
@@ -124,7 +100,7 @@ fn conclude(
 
 /// What is told of an end.
 fn told(alloc: Global, end: End, machine: Machine, turns: u64, root: u64) -> Outcome
-    ensures { IsEnded end machine turns result }
+    ensures { IsEnded end root machine turns result }
 {
     match end {
         End::HeapFull => Outcome {
@@ -140,7 +116,7 @@ fn told(alloc: Global, end: End, machine: Machine, turns: u64, root: u64) -> Out
 }
 
 fn report(end: End, machine: Machine, turns: u64, root: u64) -> Outcome
-    ensures { IsReport end machine turns result }
+    ensures { IsReport end root machine turns result }
 {
     let (printed, words, left) = machine.into_parts();
     Outcome {

@@ -2,10 +2,9 @@
 #![tactic(auto)]
 
 mod alone;
-mod eval;
 mod machine;
-mod scope;
 mod straight;
+mod values;
 
 pub use alone::run_alone;
 pub use straight::{Holds, is_straight};

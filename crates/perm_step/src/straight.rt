@@ -1,21 +1,23 @@
 //! Whether a program is straight.
 
-ghost use Rattle.std.specs.Prelude.{◌≡◌, ℕ, ◌&&◌, ◌<◌, ◌≤◌, [], ◌∷◌, length, get_or, slice_get, IfOk, Some};
+ghost use Rattle.std.specs.Prelude.{◌≡◌, ℕ, ◌&&◌, ◌<◌, ◌≤◌, List, [], ◌∷◌, length, slice_get, IfOk, Some};
 ghost use Rattle.perm_tree.specs.declared.ast.BinaryOp.TheVariants.{Plus};
 ghost use Rattle.perm_tree.specs.declared.ast.Ty.TheVariants.{Long};
-ghost use Rattle.perm_tree.specs.Code.{LongLit, NullLit, Return};
-ghost use Rattle.perm_tree.specs.CodeOf.{argument, block_code, setting, terms_of};
-ghost use Rattle.perm_tree.specs.Lookup.{field_place, is_class_word, var_place, var_ty};
+ghost use Rattle.perm_tree.specs.declared.bodies.Operation.{Operation};
+ghost use Rattle.perm_tree.specs.BodyTerms.{argument_of, expression_term, operand_term, AreOrdered, IsActionIn, IsExpressionIn};
+ghost use Rattle.perm_tree.specs.Code.{LongLit, Routine, UnitCode};
+ghost use Rattle.perm_tree.specs.CodeOf.{code_of};
+ghost use Rattle.perm_tree.specs.Lookup.{is_class_word};
 ghost use Rattle.perm_tree.specs.Names.{is_good_run};
-ghost use Rattle.perm_tree.specs.Places.{KindPlaced, MethodPlaced};
 ghost use Rattle.perm_tree.specs.Spelling.{is_word, main_word, run_word};
-ghost use Rattle.perm_step.specs.Deciding.{HoldsNumber, IsWhether, MayCome};
-ghost use Rattle.perm_step.specs.Straight.{AllLong, AllStraight, ANumber, AnObject, IsNumber, IsStraight, IsStraightCode, IsStraightKind, IsSum, Other};
+ghost use Rattle.perm_step.specs.Deciding.{IsNumberArgument, IsNumberVariable, IsWhether, MayCome};
+ghost use Rattle.perm_step.specs.Evaluation.{last_term};
+ghost use Rattle.perm_step.specs.Straight.{AllLong, AllStraight, AnObject, IsNumber, IsStraight, IsStraightCode, IsStraightKind, IsSum, Other};
 
-use crate::scope::{Scope, class, field, is_length, variable};
 use perm_tree::ast::{
-    Arg, BinaryOp, ClassDecl, Expr, FieldDecl, Ident, Method, Perm, Rhs, Shape, Stmt, StmtKind, Ty,
+    Arg, BinaryOp, ClassDecl, FieldDecl, Method, Perm, Rhs, Shape, Stmt, StmtKind, Ty,
 };
+use perm_tree::bodies::{Action, Argument, Bodies, Expression, Operand, Operation};
 use perm_tree::errors::NoMemory;
 use perm_tree::list::is_word;
 use perm_tree::program::Program;
@@ -60,9 +62,7 @@ pub fn is_straight(alloc: Global, unit: &Unit) -> Result<bool, NoMemory>
     if !all_long(fields) || !all_straight(program.stmts()) {
         return Ok(false);
     }
-    let vars = table.vars.as_slice();
-    let scope = Scope { program, vars };
-    runs_straight(alloc, unit, scope, fields.len(), run)
+    runs_straight(alloc, unit, fields.len(), table.vars.as_slice().len())
 }
 
 /// Whether there is no more of anything than a text can hold.
@@ -140,130 +140,158 @@ fn has_straight_kind(kind: &StmtKind) -> bool
 fn runs_straight(
     alloc: Global,
     unit: &Unit,
-    scope: Scope<'_>,
     fields: usize,
-    run: &Method,
+    variables: usize,
 ) -> Result<bool, NoMemory>
-    requires unit { unit.now.program ≡ scope.program.now }
-    requires straight { AllStraight scope.program.now.stmts }
-    requires placed { MethodPlaced (length scope.program.now.exprs) (length scope.program.now.stmts) run.now }
-    ensures { let k = setting unit.now scope.entry.vars.now in
-        IfOk result (λ yes. IsWhether yes (IsStraightCode fields (length scope.entry.vars.now) (Other ∷ Other ∷ []) (block_code k run.now.body.stmts (Return run.now.span (argument k run.now.back))))) }
+    requires { (r : Routine) × (slice_get (code_of unit.now).routines (code_of unit.now).run ≡ Some r) }
+    ensures { IfOk result (λ yes. (r : Routine) → slice_get (code_of unit.now).routines (code_of unit.now).run ≡ Some r → IsWhether yes (IsStraightCode fields variables (Other ∷ Other ∷ []) r.code)) }
 {
+    let bodies = unit.bodies();
     let mut held = Vec::new(alloc);
     held.push(Holds::Other)?;
     held.push(Holds::Other)?;
-    for at in run.body.stmts.as_slice() {
-        let stmt = &scope.program.stmts()[*at as usize];
-        if !may_come(&mut held, unit, scope, fields, stmt)? {
-            return Ok(false);
-        }
-    }
-    match run.back {
-        Arg::Expr(e) => {
-            if held.len() != scope.vars.len() {
-                return Ok(false);
+    let mut at = bodies.entries.as_slice()[bodies.run as usize].first;
+    loop {
+        let step = bodies.steps.as_slice()[at as usize];
+        match step.action {
+            Action::Return(back) => return Ok(ends(&held, variables, back)),
+            _ => {
+                if !may_come(&mut held, bodies, fields, step.action)? {
+                    return Ok(false);
+                }
             }
-            Ok(is_number(scope, e))
         }
-        Arg::Consume(_) => Ok(false),
+        at = step.next;
     }
 }
 
-/// Whether a statement may come next, and what its variable holds then.
+/// Whether a step may come next, and what its variable holds then.
 fn may_come(
     held: &mut Vec<Holds>,
-    unit: &Unit,
-    scope: Scope<'_>,
+    bodies: &Bodies,
     fields: usize,
-    stmt: &Stmt,
+    action: Action,
 ) -> Result<bool, NoMemory>
-    requires unit { unit.now.program ≡ scope.program.now }
-    requires straight { IsStraightKind stmt.now.kind }
-    requires placed { (at : ℕ) × KindPlaced (length scope.program.now.exprs) at stmt.now.kind }
-    ensures { IfOk result (MayCome fields (length scope.entry.vars.now) (setting unit.now scope.entry.vars.now) held.old.items stmt.now held.new.items) }
+    requires { (u : UnitCode) × IsActionIn bodies.now u action }
+    ensures { IfOk result (λ yes. (variables : ℕ) → MayCome fields variables bodies.now held.old.items action held.new.items yes) }
 {
-    match &stmt.kind {
-        StmtKind::Assign(_, x, Rhs::New(name)) => {
-            if variable(scope, *x) != held.len() || class(scope, *name) != 0 {
+    match action {
+        Action::NewObject(x, class, _) => {
+            if x as usize != held.len() || class != 0 {
                 return Ok(false);
             }
             held.push(Holds::AnObject)?;
             Ok(true)
         }
-        StmtKind::Assign(_, x, Rhs::Field(y, f)) => {
-            if variable(scope, *x) != held.len() || is_length(scope, *y, *f) {
-                return Ok(false);
-            }
-            if !is_field(held, scope, fields, *y, *f) {
+        Action::LoadField(x, y, f) => {
+            if x as usize != held.len() || !is_field(held, fields, y, f) {
                 return Ok(false);
             }
             held.push(Holds::ANumber)?;
             Ok(true)
         }
-        StmtKind::SetField(y, f, Arg::Expr(e)) => {
-            Ok(is_field(held, scope, fields, *y, *f) && is_number(scope, *e))
-        }
-        StmtKind::Print(e) => Ok(is_sum(held, scope, *e)),
-        _ => unreachable!(),
+        Action::StoreField(y, f, a) => Ok(is_field(held, fields, y, f) && is_number(a)),
+        Action::Print(e) => Ok(is_sum(held, bodies.operations.as_slice(), e)),
+        _ => Ok(false),
     }
 }
 
-/// Whether a variable holds an object, and the name is that of a field.
-fn is_field(held: &[Holds], scope: Scope<'_>, fields: usize, y: Ident, f: Ident) -> bool
-    ensures { IsWhether result ((slice_get held.now (var_place scope.entry.vars.now y) ≡ Some AnObject)
-        × (field_place scope.entry.program.now (var_ty scope.entry.vars.now (var_place scope.entry.vars.now y)) f.name < fields)) }
+/// Whether all variables are declared, and a number is returned.
+fn ends(held: &[Holds], variables: usize, back: Argument) -> bool
+    ensures { (operations : List Operation) → IsWhether result ((length held.now ≡ variables) × IsNumberArgument (argument_of operations back)) }
 {
-    is_held(held, variable(scope, y), Holds::AnObject) && field(scope, y, f) < fields
+    held.len() == variables && is_number(back)
 }
 
-/// Whether the variable at a place holds this.
-fn is_held(held: &[Holds], at: usize, what: Holds) -> bool
-    ensures { IsWhether result (slice_get held.now at ≡ Some what) }
+/// Whether a variable holds an object that has this field.
+fn is_field(held: &[Holds], fields: usize, y: u32, f: u32) -> bool
+    ensures { IsWhether result ((slice_get held.now y ≡ Some AnObject) × (f < fields)) }
 {
-    match held.get(at) {
+    is_held(held, y, Holds::AnObject) && (f as usize) < fields
+}
+
+/// Whether a variable holds this.
+fn is_held(held: &[Holds], x: u32, what: Holds) -> bool
+    ensures { IsWhether result (slice_get held.now x ≡ Some what) }
+{
+    match held.get(x as usize) {
         Some(found) => *found == what,
         None => false,
     }
 }
 
-/// Whether the expression at a place is a number.
-fn is_number(scope: Scope<'_>, at: u32) -> bool
-    requires { at < length scope.program.now.exprs }
-    ensures { IsWhether result (IsNumber (get_or (terms_of scope.entry.vars.now scope.entry.program.now.exprs) at NullLit)) }
+/// Whether an argument is a number as it stands in a text.
+fn is_number(a: Argument) -> bool
+    ensures { (operations : List Operation) → IsWhether result (IsNumberArgument (argument_of operations a)) }
 {
-    match &scope.program.exprs()[at as usize] {
-        Expr::Number(n) => is_natural(n),
+    match a {
+        Argument::Expression(e) => is_constant(e),
+        Argument::Consume(_) => false,
+    }
+}
+
+fn is_constant(e: Expression) -> bool
+    ensures { (operations : List Operation) → IsWhether result (IsNumber (expression_term operations e)) }
+{
+    match e {
+        Expression::Operand(a) => is_natural(a),
+        Expression::Operation(_) => false,
+        Expression::Operations(_, _) => false,
+    }
+}
+
+fn is_natural(a: Operand) -> bool
+    ensures { IsWhether result (IsNumber (operand_term [] a)) }
+{
+    match a {
+        Operand::Number(n) => is_at_least_0(&n),
         _ => false,
     }
 }
 
-fn is_natural(n: &i64) -> bool
+fn is_at_least_0(n: &i64) -> bool
     ensures { IsWhether result (IsNumber (LongLit n.now)) }
 {
     *n >= 0
 }
 
-/// Whether the expression at a place is a sum of variables that hold numbers.
-fn is_sum(held: &[Holds], scope: Scope<'_>, root: u32) -> bool
-    requires { root < length scope.program.now.exprs }
-    ensures { IsWhether result (IsSum held.now (get_or (terms_of scope.entry.vars.now scope.entry.program.now.exprs) root NullLit)) }
+/// Whether an expression is a sum of variables that hold numbers.
+fn is_sum(held: &[Holds], operations: &[Operation], e: Expression) -> bool
+    requires { IsExpressionIn operations.now e }
+    ensures { IsWhether result (IsSum held.now (expression_term operations.now e)) }
 {
-    let mut at = root;
+    match e {
+        Expression::Operand(a) => is_number_held(held, a),
+        Expression::Operation(o) => is_last_sum(held, &[o]),
+        Expression::Operations(first, count) => {
+            let run = &operations[first as usize..first as usize + count as usize];
+            is_last_sum(held, run)
+        }
+    }
+}
+
+/// Whether the last of some operations is a sum of variables that hold numbers.
+fn is_last_sum(held: &[Holds], run: &[Operation]) -> bool
+    requires some { 1 ≤ length run.now }
+    requires ordered { AreOrdered run.now }
+    ensures { IsWhether result (IsSum held.now (last_term run.now)) }
+{
+    let mut at = run.len() - 1;
     loop {
-        let expr = scope.program.exprs()[at as usize];
-        match expr {
-            Expr::Binary(op, a, b) => {
+        match run[at] {
+            Operation::Binary(op, a, b) => {
                 if !is_plus(op) {
                     return false;
                 }
-                if !is_number_held(held, scope, b) {
+                if !is_number_held(held, b) {
                     return false;
                 }
-                at = a;
+                match a {
+                    Operand::Earlier(i) => at = i as usize,
+                    _ => return is_number_held(held, a),
+                }
             }
-            Expr::Var(x) => return is_held(held, variable(scope, x), Holds::ANumber),
-            _ => return false,
+            Operation::Unary(_, _) => return false,
         }
     }
 }
@@ -277,14 +305,12 @@ fn is_plus(op: BinaryOp) -> bool
     }
 }
 
-/// Whether the expression at a place is a variable that holds a number.
-fn is_number_held(held: &[Holds], scope: Scope<'_>, at: u32) -> bool
-    requires { at < length scope.program.now.exprs }
-    ensures { IsWhether result (HoldsNumber held.now (get_or (terms_of scope.entry.vars.now scope.entry.program.now.exprs) at NullLit)) }
+/// Whether an operand is a variable that holds a number.
+fn is_number_held(held: &[Holds], a: Operand) -> bool
+    ensures { IsWhether result (IsNumberVariable held.now a) }
 {
-    let expr = scope.program.exprs()[at as usize];
-    match expr {
-        Expr::Var(x) => is_held(held, variable(scope, x), Holds::ANumber),
+    match a {
+        Operand::Local(x) => is_held(held, x, Holds::ANumber),
         _ => false,
     }
 }

@@ -1,6 +1,11 @@
 pub mod Doubles
+pub mod Emission
 pub mod FirstFindings
 pub mod FirstPlaces
+pub mod Growth
 pub mod Maps
+pub mod NumberingArguments
+pub mod NumberingExpressions
+pub mod NumberingRoutines
 pub mod Renaming
 pub mod Walking

@@ -1,4 +1,9 @@
+pub mod Emission
 pub mod Findings
+pub mod Growth
+pub mod Numbered
+pub mod Numbering
 pub mod Numbers
+pub mod Operands
 pub mod Runs
 pub mod Walks

@@ -11,12 +11,14 @@ ghost use Rattle.perm_table.specs.Findings.{findings, first_before, told_if};
 ghost use Rattle.perm_table.specs.Numbers.{number_in};
 
 mod classes;
+mod numbering;
 mod numbers;
 mod refusals;
 mod run;
 mod tables;
 
 use crate::classes::class_map;
+use crate::numbering::bodies_of;
 use crate::numbers::ClassNumbers;
 use crate::refusals::{Finding, first_finding, first_unknown};
 use crate::run::run_refusal;
@@ -76,7 +78,8 @@ fn unit_of(alloc: Global, program: Program, tables: List<MethodTable>) -> Result
     ensures { IfOk result (λ unit. unit ≡ record { program = program; tables = tables }) }
 {
     let classes = class_map(alloc, &program)?;
-    Ok(Unit::new(program, classes, tables))
+    let bodies = bodies_of(alloc, &program, tables.as_slice())?;
+    Ok(Unit::new(program, classes, tables, bodies))
 }
 
 /// The program in which types and mentions have the numbers of classes for their names.

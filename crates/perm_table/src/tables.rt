@@ -42,7 +42,7 @@ fn typed(ty: Option<Ty>, name: Ident) -> Option<FieldDecl>
 }
 
 /// What a statement declares in the block in which it stands.
-fn declared_by(kind: &StmtKind) -> Option<FieldDecl>
+pub fn declared_by(kind: &StmtKind) -> Option<FieldDecl>
     ensures { option_to_list result ≡ declared_by kind.now }
 {
     match kind {

@@ -5,6 +5,8 @@ pub mod ClassMaps
 pub mod CodeLaws
 pub mod Entries
 pub mod Examples
+pub mod FoundPlaces
+pub mod LowLaws
 pub mod Lows
 pub mod MentionLaws
 pub mod MethodMarks
@@ -22,4 +24,5 @@ pub mod ResolvedTypes
 pub mod RoutineLaws
 pub mod RunLaw
 pub mod ScopeRows
+pub mod SetWords
 pub mod TableLaws

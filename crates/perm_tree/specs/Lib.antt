@@ -1,7 +1,9 @@
 pub mod Blocks
+pub mod BodyTerms
 pub mod Code
 pub mod CodeOf
 pub mod Entries
+pub mod Links
 pub mod Lookup
 pub mod Lows
 pub mod Mentions
@@ -18,5 +20,6 @@ pub mod TextOrder
 pub mod TextPlaces
 pub mod Ties
 pub mod UnitTables
+pub mod VarSets
 pub mod Vars
 pub mod WellFormed

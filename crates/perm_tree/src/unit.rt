@@ -1,11 +1,13 @@
 //! Programs whose names are resolved.
 
 ghost use Rattle.std.specs.Prelude.{◌≡◌};
+ghost use Rattle.perm_tree.specs.Links.{AreBodies};
 ghost use Rattle.perm_tree.specs.Lookup.{class_place};
 ghost use Rattle.perm_tree.specs.Nesting.{AllNested};
 ghost use Rattle.perm_tree.specs.Resolves.{IsResolved, TakesNames};
 
 use crate::ast::{Span, Ty};
+use crate::bodies::Bodies;
 use crate::list::{List, Name};
 use crate::program::Program;
 use indexmap::IndexMap;
@@ -28,15 +30,17 @@ pub struct MethodTable {
     pub vars: List<VarInfo>,
 }
 
-/// A program with the tables of its methods, in text order. The place of a table is the method's number.
+/// A program with the tables and the bodies of its methods, in text order. The place of a table is the method's number.
 #[derive(Drop)]
 pub struct Unit {
     program: Program,
     classes: IndexMap<Name, u32>,
     tables: List<MethodTable>,
+    bodies: Bodies,
 }
 
 impl Model for Unit {
+    ghost use Rattle.perm_tree.specs.Links.{AreBodies};
     ghost use Rattle.perm_tree.specs.Resolves.{IsResolved, TakesNames};
     ghost use Rattle.perm_tree.specs.UnitTables.{Tables};
 
@@ -44,19 +48,26 @@ impl Model for Unit {
 
     ghost view = { λ u. record { program = u.program; tables = u.tables } };
 
-    ghost invariant = { λ u. IsResolved (record { program = u.program; tables = u.tables }) × TakesNames u.program u.classes.entries };
+    ghost invariant = { λ u. IsResolved (record { program = u.program; tables = u.tables }) × TakesNames u.program u.classes.entries × AreBodies (record { program = u.program; tables = u.tables }) u.bodies };
 }
 
 impl Unit {
-    pub fn new(program: Program, classes: IndexMap<Name, u32>, tables: List<MethodTable>) -> Unit
+    pub fn new(
+        program: Program,
+        classes: IndexMap<Name, u32>,
+        tables: List<MethodTable>,
+        bodies: Bodies,
+    ) -> Unit
         requires resolved { IsResolved (record { program = program; tables = tables }) }
         requires names { TakesNames program classes.entries }
+        requires numbered { AreBodies (record { program = program; tables = tables }) bodies }
         ensures { result ≡ record { program = program; tables = tables } }
     {
         Unit {
             program,
             classes,
             tables,
+            bodies,
         }
     }
 
@@ -86,6 +97,13 @@ impl Unit {
             Some(place) => *place as usize,
             None => count,
         }
+    }
+
+    /// The bodies of the methods, in which every name is a number.
+    pub fn bodies(&self) -> &Bodies
+        ensures { AreBodies self.now result.now }
+    {
+        &self.bodies
     }
 
     pub fn tables(&self) -> &[MethodTable]

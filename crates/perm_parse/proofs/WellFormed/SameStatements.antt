@@ -84,5 +84,5 @@ params-same text Params.no_params s = stays s
 params-same text (Params.params list) s = param_list-same text list s
 
 -- what stands of a method before its body
-pub method-same : (text : List ℕ) (ty : TypeTree) (name : Token) (list : Params) (s : Listing) → IsSame s (method_of text ty name list s).3
+pub method-same : (text : List ℕ) (ty : TypeTree) (name : Token) (list : Params) (s : Listing) → IsSame s (method_of text ty name list s).program
 method-same text ty name list s = then (type-same text ty s) (then (ident-same text name _) (params-same text list _))

@@ -109,11 +109,11 @@ member-places : (text : List ℕ) (x : MemberTree) (fs : List FieldDecl) (ds : L
 member-places text (MemberTree.field_member ty name end) fs ds s t g = last g (then (type-same text ty t) (ident-same text name _))
 member-places text (MemberTree.method ty name opening list closing p perm start b word a end finish) fs ds s t g =
     let head = method_of text ty name list t in
-    let x = stmts_of text b head.3 in
+    let x = stmts_of text b head.program in
     let y = arg_of text a x.1 in
-    let made : Method = record { result = head.0; name = head.1; params = head.2; receiver = p; body = record { stmts = x.0 }; back = y.0; span = span_over word end } in
+    let made : Method = record { result = head.result; name = head.name; params = head.params; receiver = p; body = record { stmts = x.0 }; back = y.0; span = span_over word end } in
     subst (Places s y.1) (sym (map-append (λ (d : Method). d.body) ds (made ∷ [])))
-    (join g (after (none (method-same text ty name list t)) (last (stmts-places text b head.3) (arg-same text a x.1))))
+    (join g (after (none (method-same text ty name list t)) (last (stmts-places text b head.program) (arg-same text a x.1))))
 
 members-places : (text : List ℕ) (a : Members) (s : Listing) → Places s (members_of text a s).2 (bodies (members_of text a s).1)
 members-places text Members.no_members s = none (stays s)

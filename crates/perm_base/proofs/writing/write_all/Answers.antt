@@ -1,6 +1,6 @@
-use Rattle.std.proofs.Common.{◌∙◌, refl, arith, rules}
+use Rattle.std.proofs.Common.{◌∙◌, refl, rules}
 use Rattle.std.proofs.lemmas.Grind.{common_steps}
-use Rattle.perm_base.proofs.WrittenParts.{all_written, more_writes, more_written, no_writes, none_written, on_err, part_written, refused_write}
+use Rattle.perm_base.proofs.WrittenParts.{more_writes, more_written, no_writes, none_written, on_err, part_written, refused_write}
 use Rattle.perm_base.proofs.writing.write_all.Goals as goal
 
 pub returns-in_err-taken-clause-part : goal.returns-in_err-taken-clause-part

@@ -1,77 +1,79 @@
-use Rattle.std.proofs.Common.{◌≡◌, ◌∙◌, ℕ, ◌+◌, ◌<◌, ◌≤◌, drop, List, Some, ap, arith, get_or, length, refl, subst, sym}
-use Rattle.std.specs.Prelude.{slice_get}
-use Rattle.std.proofs.lemmas.Option.{slice_get_read}
-use Rattle.perm_tree.specs.declared.ast.Stmt.{Stmt}
-use Rattle.perm_tree.specs.Code.{Return}
-use Rattle.perm_tree.specs.CodeOf.{argument, block_code, setting}
-use Rattle.perm_tree.specs.Places.{AllBelow}
-use Rattle.perm_step.proofs.StatementPlaces.{below_at}
-use Rattle.perm_step.proofs.StraightSteps.{body-step, may-not, may-on, return-may}
-use Rattle.perm_step.proofs.StraightStmts.{straight_at}
+use Rattle.std.proofs.Common.{◌≡◌, ◌∙◌, ◌<◌, [], ◌∷◌, ◌++◌, List, get_or, length, ap, arith, subst}
+use Rattle.std.proofs.lemmas.Option.{slice_get_within}
+use Rattle.perm_tree.specs.declared.bodies.Action.TheVariants.{Declare}
+use Rattle.perm_tree.specs.declared.bodies.Entry.{Entry}
+use Rattle.perm_tree.specs.declared.bodies.Step.{Step}
+use Rattle.perm_tree.specs.BodyTerms.{argument_of}
+use Rattle.perm_tree.specs.CodeOf.{code_of}
+use Rattle.perm_step.specs.declared.straight.Holds.{Holds}
+use Rattle.perm_step.specs.Deciding.{IsNumberArgument, IsWhether}
+use Rattle.perm_step.specs.Straight.{Other}
+use Rattle.perm_step.proofs.Deciding.{read_at}
+use Rattle.perm_step.proofs.StraightSteps.{course-begins, course-goes, course-falls, course-stops, course-ends}
 use Rattle.perm_step.proofs.straight.runs_straight.Goals as goal
 
-pub bounds-stmts-at : goal.bounds-stmts-at
-bounds-stmts-at c =
-    let p = c.args.scope.program.now in
-    let below : get_or c.as_slice-at-items.result.now c.loop-at.at-index 0 < length p.stmts =
-    below_at (length p.stmts) c.as_slice-at-items.result.now c.loop-at.at-index (subst (λ (l : List ℕ). AllBelow (length p.stmts) l) (sym c.as_slice-at-items.ensures) c.requires.placed.0) c.loop-at-test.true in
-    omega (arith, below, ap (λ (l : List Stmt). length l) c.stmts.ensures.value)
+abbrev no_step : Step
+no_step = record { span = record { start = 0; end = 0 }; next = 0; action = Declare 0 }
 
-pub may_come-requires-clause-straight : goal.may_come-requires-clause-straight
-may_come-requires-clause-straight c =
-    let p = c.args.scope.program.now in
-    let found : slice_get p.stmts (get_or c.as_slice-at-items.result.now c.loop-at.at-index 0) ≡ Some c.index-stmts-at.result =
-    slice_get_read p.stmts (length p.stmts) (get_or c.as_slice-at-items.result.now c.loop-at.at-index 0) c.index-stmts-at.result refl
-    (below_at (length p.stmts) c.as_slice-at-items.result.now c.loop-at.at-index (subst (λ (l : List ℕ). AllBelow (length p.stmts) l) (sym c.as_slice-at-items.ensures) c.requires.placed.0) c.loop-at-test.true)
-    (c.index-stmts-at.is ∙ ap (λ (l : List Stmt). get_or l (get_or c.as_slice-at-items.result.now c.loop-at.at-index 0) c.index-stmts-at.result) c.stmts.ensures.value) in
-    straight_at p.stmts (get_or c.as_slice-at-items.result.now c.loop-at.at-index 0) c.index-stmts-at.result c.requires.straight found
+pub bounds-as_slice-bodies : goal.bounds-as_slice-bodies
+bounds-as_slice-bodies c =
+    let a = c.bodies-bodies.ensures in
+    omega (arith, slice_get_within (code_of c.args.unit.now).routines (code_of c.args.unit.now).run c.requires.0 c.requires.1, a.entries, a.run, ap (λ (l : List Entry). length l) c.as_slice.ensures)
 
-pub may_come-requires-clause-placed : goal.may_come-requires-clause-placed
-may_come-requires-clause-placed c =
-    let p = c.args.scope.program.now in
-    let found : slice_get p.stmts (get_or c.as_slice-at-items.result.now c.loop-at.at-index 0) ≡ Some c.index-stmts-at.result =
-    slice_get_read p.stmts (length p.stmts) (get_or c.as_slice-at-items.result.now c.loop-at.at-index 0) c.index-stmts-at.result refl
-    (below_at (length p.stmts) c.as_slice-at-items.result.now c.loop-at.at-index (subst (λ (l : List ℕ). AllBelow (length p.stmts) l) (sym c.as_slice-at-items.ensures) c.requires.placed.0) c.loop-at-test.true)
-    (c.index-stmts-at.is ∙ ap (λ (l : List Stmt). get_or l (get_or c.as_slice-at-items.result.now c.loop-at.at-index 0) c.index-stmts-at.result) c.stmts.ensures.value) in
-    (get_or c.as_slice-at-items.result.now c.loop-at.at-index 0, c.stmts.ensures.placed.stmts (get_or c.as_slice-at-items.result.now c.loop-at.at-index 0) c.index-stmts-at.result found)
+pub loop-back-init : goal.loop-back-init
+loop-back-init c =
+    let u = code_of c.args.unit.now in
+    let b = c.bodies-bodies.result.now in
+    let a = c.bodies-bodies.ensures in
+    let held : c.push-2.new.self.items ≡ Other ∷ Other ∷ [] = c.in_ok-push-2.ensures.items ∙ ap (λ (l : List Holds). l ++ Other ∷ []) (c.in_ok-push.ensures.items ∙ ap (λ (l : List Holds). l ++ Other ∷ []) c.new-held.ensures.items) in
+    let within : b.run < length b.entries = omega (arith, slice_get_within u.routines u.run c.requires.0 c.requires.1, a.entries, a.run) in
+    let entry : Entry = get_or c.as_slice.result.now b.run (record { first = 0; variables = 0 }) in
+    (a, course-begins u b a c.args.fields c.args.variables c.requires.0 c.requires.1 entry (read_at c.as_slice.result.now b.entries b.run (record { first = 0; variables = 0 }) c.as_slice.ensures within) c.push-2.new.self.items held)
+
+pub bounds-as_slice-at : goal.bounds-as_slice-at
+bounds-as_slice-at c = omega (arith, c.loop-back.invariant.1.0, ap (λ (l : List Step). length l) c.as_slice-in-loop-back.ensures)
+
+pub may_come-requires : goal.may_come-requires
+may_come-requires c =
+    let b = c.bodies-bodies.result.now in
+    let a = c.loop-back.invariant.0 in
+    let here = read_at c.as_slice-in-loop-back.result.now b.steps c.loop-back.at no_step c.as_slice-in-loop-back.ensures c.loop-back.invariant.1.0 in
+    (code_of c.args.unit.now, (a.linked c.loop-back.at (get_or c.as_slice-in-loop-back.result.now c.loop-back.at no_step) here).1)
+
+pub returns-in-Return : goal.returns-in-Return
+returns-in-Return c r found =
+    let b = c.bodies-bodies.result.now in
+    let a = c.loop-back.invariant.0 in
+    let here = read_at c.as_slice-in-loop-back.result.now b.steps c.loop-back.at no_step c.as_slice-in-loop-back.ensures c.loop-back.invariant.1.0 in
+    let s = get_or c.as_slice-in-loop-back.result.now c.loop-back.at no_step in
+    course-ends (code_of c.args.unit.now) b a c.args.fields c.args.variables c.loop-back.at s here c.loop-back.held.items c.loop-back.invariant.1 c.in-Return.back c.ends.result c.in-Return.is
+    (subst (λ (l : List Holds). IsWhether c.ends.result ((length l ≡ c.args.variables) × IsNumberArgument (argument_of b.operations c.in-Return.back))) c.deref.ensures.value (c.ends.ensures b.operations)) r found
 
 pub returns-then-not-branch : goal.returns-then-not-branch
-returns-then-not-branch c whole =
-    let p = c.args.scope.program.now in
-    let found : slice_get p.stmts (get_or c.as_slice-at-items.result.now c.loop-at.at-index 0) ≡ Some c.index-stmts-at.result =
-    slice_get_read p.stmts (length p.stmts) (get_or c.as_slice-at-items.result.now c.loop-at.at-index 0) c.index-stmts-at.result refl
-    (below_at (length p.stmts) c.as_slice-at-items.result.now c.loop-at.at-index (subst (λ (l : List ℕ). AllBelow (length p.stmts) l) (sym c.as_slice-at-items.ensures) c.requires.placed.0) c.loop-at-test.true)
-    (c.index-stmts-at.is ∙ ap (λ (l : List Stmt). get_or l (get_or c.as_slice-at-items.result.now c.loop-at.at-index 0) c.index-stmts-at.result) c.stmts.ensures.value) in
-    let u = c.args.unit.now in
-    let vs = c.args.scope.vars.now in
-    let is = c.as_slice-at-items.result.now in
-    let k = setting u vs in
-    let end = Return c.args.run.now.span (argument k c.args.run.now.back) in
-    let step = body-step u vs p c.requires.unit is c.loop-at.at-index 0 c.index-stmts-at.result end c.loop-at-test.true found
-    (straight_at p.stmts (get_or is c.loop-at.at-index 0) c.index-stmts-at.result c.requires.straight found) in
-    may-not c.args.fields (length vs) k c.loop-at.held.items c.may_come.new.held.items c.index-stmts-at.result c.in_ok-may_come.field-0 (block_code k (drop c.loop-at.at-index is) end)
-    (block_code k (drop (c.loop-at.at-index + 1) is) end) c.in_ok-may_come.ensures c.if-not-branch.true step c.loop-at.invariant whole
+returns-then-not-branch c r found straight =
+    let b = c.bodies-bodies.result.now in
+    let a = c.loop-back.invariant.0 in
+    let here = read_at c.as_slice-in-loop-back.result.now b.steps c.loop-back.at no_step c.as_slice-in-loop-back.ensures c.loop-back.invariant.1.0 in
+    let s = get_or c.as_slice-in-loop-back.result.now c.loop-back.at no_step in
+    course-stops (code_of c.args.unit.now) b a c.args.fields c.args.variables c.loop-back.at s here c.loop-back.held.items c.loop-back.invariant.1 c.may_come.new.held.items c.in_ok-may_come-in_default.field-0
+    c.if-not-branch.true (c.in_ok-may_come-in_default.ensures c.args.variables) c.in_default.not-Return r found straight
 
-pub loop-at-preserved : goal.loop-at-preserved
-loop-at-preserved c =
-    let p = c.args.scope.program.now in
-    let found : slice_get p.stmts (get_or c.as_slice-at-items.result.now c.loop-at.at-index 0) ≡ Some c.index-stmts-at.result =
-    slice_get_read p.stmts (length p.stmts) (get_or c.as_slice-at-items.result.now c.loop-at.at-index 0) c.index-stmts-at.result refl
-    (below_at (length p.stmts) c.as_slice-at-items.result.now c.loop-at.at-index (subst (λ (l : List ℕ). AllBelow (length p.stmts) l) (sym c.as_slice-at-items.ensures) c.requires.placed.0) c.loop-at-test.true)
-    (c.index-stmts-at.is ∙ ap (λ (l : List Stmt). get_or l (get_or c.as_slice-at-items.result.now c.loop-at.at-index 0) c.index-stmts-at.result) c.stmts.ensures.value) in
-    let u = c.args.unit.now in
-    let vs = c.args.scope.vars.now in
-    let is = c.as_slice-at-items.result.now in
-    let k = setting u vs in
-    let end = Return c.args.run.now.span (argument k c.args.run.now.back) in
-    let step = body-step u vs p c.requires.unit is c.loop-at.at-index 0 c.index-stmts-at.result end c.loop-at-test.true found
-    (straight_at p.stmts (get_or is c.loop-at.at-index 0) c.index-stmts-at.result c.requires.straight found) in
-    may-on c.args.fields (length vs) k c.loop-at.held.items c.may_come.new.held.items c.index-stmts-at.result c.in_ok-may_come.field-0 (block_code k (drop c.loop-at.at-index is) end)
-    (block_code k (drop (c.loop-at.at-index + 1) is) end) c.in_ok-may_come.ensures c.if-not-branch.false step c.loop-at.invariant
+pub loop-back-smaller : goal.loop-back-smaller
+loop-back-smaller c =
+    let b = c.bodies-bodies.result.now in
+    let a = c.loop-back.invariant.0 in
+    let here = read_at c.as_slice-in-loop-back.result.now b.steps c.loop-back.at no_step c.as_slice-in-loop-back.ensures c.loop-back.invariant.1.0 in
+    let s = get_or c.as_slice-in-loop-back.result.now c.loop-back.at no_step in
+    course-falls (code_of c.args.unit.now) b a c.args.fields c.args.variables c.loop-back.at s here c.loop-back.held.items c.loop-back.invariant.1 c.may_come.new.held.items c.in_ok-may_come-in_default.field-0
+    c.if-not-branch.false (c.in_ok-may_come-in_default.ensures c.args.variables)
 
-pub returns-in-Expr : goal.returns-in-Expr
-returns-in-Expr c =
-    let past : length c.as_slice-at-items.result.now ≤ c.loop-at.at-index = omega (arith, c.loop-at-test.false) in
-    let count : length c.loop-at.held.items ≡ length c.args.scope.vars.now = omega (arith, c.len.ensures, c.if-len-scope.false) in
-    return-may c.args.unit.now c.args.scope.vars.now c.args.scope.program.now c.requires.unit c.args.fields c.loop-at.held.items c.as_slice-at-items.result.now c.loop-at.at-index c.in-Expr.e
-    c.args.run.now.back c.args.run.now.span c.is_number.result past c.in-Expr.is count c.is_number.ensures c.loop-at.invariant
+pub loop-back-preserved : goal.loop-back-preserved
+loop-back-preserved c =
+    let b = c.bodies-bodies.result.now in
+    let a = c.loop-back.invariant.0 in
+    let here = read_at c.as_slice-in-loop-back.result.now b.steps c.loop-back.at no_step c.as_slice-in-loop-back.ensures c.loop-back.invariant.1.0 in
+    let s = get_or c.as_slice-in-loop-back.result.now c.loop-back.at no_step in (
+      a,
+      course-goes (code_of c.args.unit.now) b a c.args.fields c.args.variables c.loop-back.at s here c.loop-back.held.items c.loop-back.invariant.1 c.may_come.new.held.items c.in_ok-may_come-in_default.field-0
+          c.if-not-branch.false (c.in_ok-may_come-in_default.ensures c.args.variables),
+    )

@@ -1,15 +1,21 @@
-use Rattle.std.proofs.Common.{ℕ, List, ap, ◌∙◌, subst}
-use Rattle.perm_step.specs.Evaluation.{gives_at, IsAnswer}
-use Rattle.perm_step.specs.Workspace.{Workspace}
+use Rattle.std.proofs.Common.{List, ℕ, ap, ◌∙◌, drop, subst}
+use Rattle.std.proofs.lemmas.Result.{IfOk-weaker, IfErr-weaker}
+use Rattle.perm_tree.specs.BodyTerms.{expression_term}
+use Rattle.perm_meaning.specs.Expressions.{eval}
+use Rattle.perm_meaning.specs.Words.{words}
+use Rattle.perm_step.specs.Evaluation.{IsAnswer}
+use Rattle.perm_step.specs.Workspace.{locals}
 use Rattle.perm_step.proofs.Acts.{word_given, trap_given}
 use Rattle.perm_step.proofs.machine.Machine.value.Goals as goal
 
-pub returns-in-Word-clause-given : goal.returns-in-Word-clause-given
-returns-in-Word-clause-given c =
-    word_given _ _ _ c.in-Word.is
-    (subst (λ (vs : List ℕ). IsAnswer (gives_at c.args.scope.program.now c.args.scope.vars.now vs c.args.e) c.in_ok-word.field-0) (c.as_slice.ensures.value ∙ ap (λ (m : Workspace). m.vars) c.self.view_is) c.in_ok-word.ensures)
+pub returns-clause-given : goal.returns-clause-given
+returns-clause-given c =
+    let e = expression_term c.args.operations.now c.args.e.now in
+    let answer = subst (λ (vs : List ℕ). IsAnswer (eval words e vs) c.evaluate.result) (ap (drop c.self.inside.base) c.as_slice-vars.ensures.value ∙ ap locals c.self.view_is) c.evaluate.ensures in
+    IfOk-weaker c.word.result _ _ (λ w is. word_given (eval words e (locals c.args.self.now)) c.evaluate.result w is answer) c.word.ensures.word
 
-pub returns-in-Trap-clause-halted : goal.returns-in-Trap-clause-halted
-returns-in-Trap-clause-halted c =
-    trap_given _ _ _ _ c.in-Trap.is
-    (subst (λ (vs : List ℕ). IsAnswer (gives_at c.args.scope.program.now c.args.scope.vars.now vs c.args.e) c.in_ok-word.field-0) (c.as_slice.ensures.value ∙ ap (λ (m : Workspace). m.vars) c.self.view_is) c.in_ok-word.ensures)
+pub returns-clause-halted : goal.returns-clause-halted
+returns-clause-halted c =
+    let e = expression_term c.args.operations.now c.args.e.now in
+    let answer = subst (λ (vs : List ℕ). IsAnswer (eval words e vs) c.evaluate.result) (ap (drop c.self.inside.base) c.as_slice-vars.ensures.value ∙ ap locals c.self.view_is) c.evaluate.ensures in
+    IfErr-weaker c.word.result _ _ (λ k is. trap_given (eval words e (locals c.args.self.now)) c.evaluate.result k is answer) c.word.ensures.trap

@@ -1,0 +1,85 @@
+-- A branch that stands at a spot of its method, and how it leaves ended blocks.
+use Rattle.std.proofs.Common.{◌≡◌, ℕ, ℤ, List, [], ◌∷◌, ◌++◌, Some, None, refl, ap, ◌∙◌}
+use Rattle.perm_tree.specs.Code.{Code, End, Give, Return, Do, If, While, Par, Recover, Invoke, UnitCode}
+use Rattle.perm_tree.specs.Links.{Enclosing, InBlock, InRecover, Spot, left_ended}
+use Rattle.perm_meaning.specs.Custody.{Copies}
+use Rattle.perm_meaning.specs.Effects.{Tick}
+use Rattle.perm_meaning.specs.Expressions.{clear, clear_all}
+use Rattle.perm_meaning.specs.Machine.{Frame, OpenBlock, OpenRecover, OpenCall, leaf_op, leaf_on, settled, stage}
+use Rattle.perm_meaning.specs.WordHeap.{Branch, Task, worded}
+use Rattle.perm_meaning.specs.Words.{words}
+use Rattle.perm_step.proofs.Cells.{clear_same}
+
+-- ---------- frames ----------
+-- what is open round a code in its method, on words: a recover block lays nothing by
+abbrev pub frames_of : List Enclosing → List (Frame ℕ)
+frames_of [] = []
+frames_of (InBlock own rest ∷ st) = OpenBlock own rest ∷ frames_of st
+frames_of (InRecover own hides rest ∷ st) = OpenRecover own hides [] rest ∷ frames_of st
+
+-- nothing stands below a method but an open call
+abbrev pub AreCalls : List (Frame ℕ) → Type 0
+AreCalls [] = Unit {0}
+AreCalls (OpenCall tie into y saved lent caller rest ∷ st) = Unit {0}
+AreCalls (f ∷ st) = ⊥
+
+-- the branch at a spot, with what stands below its method, its variables, depth, printed numbers and turns
+abbrev pub branch_at : Spot → List (Frame ℕ) → List ℕ → ℕ → List ℤ → ℕ → Branch
+branch_at s below vs depth printed turns = record {
+  own = record { vars = vs; routine = s.routine; depth = depth; printed = printed; mark = tt };
+  turns = turns;
+  code = s.code;
+  stack = frames_of s.within ++ below;
+  close = None;
+}
+
+-- an open call: the place of its statement, and the variables of its caller
+pub record Open : Type 0 where
+  pub place : ℕ
+  pub saved : List ℕ
+
+-- the frame of a call at a spot over what stands below
+abbrev pub frame_over : ℕ → List Enclosing → Code → List ℕ → List (Frame ℕ) → List (Frame ℕ)
+frame_over m within (Do at (Invoke into tie consumed y r args) rest) saved below = OpenCall tie into y saved None m rest ∷ (frames_of within ++ below)
+frame_over m within c saved below = []
+
+-- the frames of open calls, the last one first
+abbrev pub calls_of : (ℕ → Spot) → List Open → List (Frame ℕ)
+calls_of spot [] = []
+calls_of spot (o ∷ os) = frame_over (spot o.place).routine (spot o.place).within (spot o.place).code o.saved (calls_of spot os)
+
+frame-call : (m : ℕ) (within : List Enclosing) (c : Code) (saved : List ℕ) (below : List (Frame ℕ)) → AreCalls (frame_over m within c saved below)
+frame-call m within (Do at (Invoke into tie consumed y r args) rest) saved below = tt
+frame-call m within c saved below = tt
+
+pub are-calls : (spot : ℕ → Spot) (os : List Open) → AreCalls (calls_of spot os)
+are-calls spot [] = tt
+are-calls spot (o ∷ os) = frame-call (spot o.place).routine (spot o.place).within (spot o.place).code o.saved (calls_of spot os)
+
+-- a branch makes a turn that asks nothing of the heap, and is then this
+abbrev pub Ticks : UnitCode → Branch → Task → Type 0
+Ticks u b t = (leaf_op (worded Copies u) b (stage b) ≡ Some Tick) × (leaf_on (worded Copies u) b (stage b) (Some 0) ≡ t)
+
+-- ---------- ended blocks ----------
+pub clear_all_same : (vs ys : List ℕ) → clear_all words vs ys ≡ vs
+clear_all_same vs [] = refl
+clear_all_same vs (y ∷ ys) = clear_all_same (clear words vs y) ys ∙ clear_same vs y
+
+-- a branch with this code, and this open round it, stands where the code leads
+pub settles : (u : UnitCode) (b : Branch) (vs : List ℕ) (c : Code) (st : List Enclosing) (below : List (Frame ℕ)) → AreCalls below
+    → settled (worded Copies u) b vs c (frames_of st ++ below) ≡ record b { own = record b.own { vars = vs }; code = (left_ended c st).code; stack = frames_of (left_ended c st).within ++ below }
+settles u b vs End [] [] calls = refl
+settles u b vs End [] (OpenBlock own rest ∷ st) calls = absurd calls
+settles u b vs End [] (OpenRecover own hides saved rest ∷ st) calls = absurd calls
+settles u b vs End [] (OpenCall tie into y saved lent caller rest ∷ st) calls = refl
+settles u b vs End (InBlock own rest ∷ st) below calls =
+    settles u b (clear_all words vs own) rest st below calls
+    ∙ ap (λ (ws : List ℕ). let x : Branch = record b { own = record b.own { vars = ws }; code = (left_ended rest st).code; stack = frames_of (left_ended rest st).within ++ below } in x) (clear_all_same vs own)
+settles u b vs End (InRecover own hides rest ∷ st) below calls = refl
+settles u b vs (Give at w x) st below calls = refl
+settles u b vs (Return at a) st below calls = refl
+settles u b vs (Do at i rest) st below calls = refl
+settles u b vs (If at e own1 a own2 c rest) st below calls = refl
+settles u b vs (While at e own body rest) st below calls = refl
+settles u b vs (Par at own1 a own2 c rest) st below calls = refl
+settles u b vs (Recover at x own hides body rest) st below calls = refl

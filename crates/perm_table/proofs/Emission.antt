@@ -1,0 +1,6 @@
+-- The steps of methods are emitted as their codes go.
+pub mod Forms
+pub mod Methods
+pub mod Paths
+pub mod Sets
+pub mod Statements

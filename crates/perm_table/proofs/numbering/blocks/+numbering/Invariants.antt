@@ -1,0 +1,39 @@
+use Rattle.std.proofs.Common.{◌+◌, ◌*◌, ◌≤◌, drop, length}
+use Rattle.perm_tree.specs.CodeOf.{block_code}
+use Rattle.perm_table.specs.Emission.{IsEmitted}
+use Rattle.perm_table.specs.Numbering.{setting_of}
+use Rattle.perm_table.proofs.numbering.blocks.+numbering.Given as goal
+
+abbrev pub decreases-number_block : goal.decreases-number_block
+decreases-number_block l = 6 * l.below
+
+abbrev pub decreases-number_braced : goal.decreases-number_braced
+decreases-number_braced l = 6 * l.below + 1
+
+abbrev pub decreases-number_else : goal.decreases-number_else
+decreases-number_else l = 6 * l.below + 2
+
+abbrev pub decreases-number_if : goal.decreases-number_if
+decreases-number_if l = 6 * l.at + 3
+
+abbrev pub decreases-number_while : goal.decreases-number_while
+decreases-number_while l = 6 * l.at + 3
+
+abbrev pub decreases-number_par : goal.decreases-number_par
+decreases-number_par l = 6 * l.at + 3
+
+abbrev pub decreases-number_recover : goal.decreases-number_recover
+decreases-number_recover l = 6 * l.at + 3
+
+abbrev pub decreases-number_assignment : goal.decreases-number_assignment
+decreases-number_assignment l = 6 * l.at + 4
+
+abbrev pub decreases-number_stmt : goal.decreases-number_stmt
+decreases-number_stmt l = 6 * l.at + 5
+
+abbrev pub decreases-number_block-loop-left : goal.decreases-number_block-loop-left
+decreases-number_block-loop-left l = l.left
+
+abbrev pub invariant-number_block-loop-left : goal.invariant-number_block-loop-left
+invariant-number_block-loop-left l =
+    (l.left ≤ length l.stmts) × IsEmitted (setting_of l.names) l.initial.bodies l.next l.bodies (block_code (setting_of l.names) (drop l.left l.stmts)) (record { first = l.first; written = l.written })

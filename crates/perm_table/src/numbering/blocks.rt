@@ -1,0 +1,332 @@
+//! Numbers the statements of a method, the last one first, so that each leads on to steps that are there.
+
+ghost use Rattle.std.specs.Prelude.{◌≡◌, ◌<◌, ◌≤◌, length, slice_get, slice_index, IfOk, Some};
+ghost use Rattle.perm_tree.specs.CodeOf.{block_code, codes_of, kind_code, stmt_code};
+ghost use Rattle.perm_tree.specs.Places.{AllBelow, ElseBelow, IsPlaced, KindPlaced, RhsPlaced};
+ghost use Rattle.perm_tree.specs.Scopes.{else_stmts};
+ghost use Rattle.perm_table.specs.Emission.{if_code, par_code, recover_code, while_code, HasPar, IsAssignment, IsBlockEmitted, IsEmitted};
+ghost use Rattle.perm_table.specs.Numbered.{IsSimpleKind};
+ghost use Rattle.perm_table.specs.Numbering.{setting_of};
+
+use crate::numbering::emit::{Fragment, add_sides, emit, settle};
+use crate::numbering::expressions::number_expression;
+use crate::numbering::names::Names;
+use crate::numbering::simple::number_simple;
+use crate::numbering::writes::{outer, with, written_by};
+use perm_tree::ast::{Block, Ident, Rhs, Span, Stmt, StmtKind};
+use perm_tree::bodies::{Action, Bodies, Sides};
+use perm_tree::errors::NoMemory;
+use perm_tree::var_set::VarSet;
+use std::alloc::Global;
+
+/// The statements of a block before a step that comes next.
+#[cycle(numbering)]
+pub fn number_block(
+    alloc: Global,
+    bodies: &mut Bodies,
+    names: &Names<'_>,
+    below: usize,
+    stmts: &[u32],
+    next: u32,
+) -> Result<Fragment, NoMemory>
+    requires inside { AllBelow below stmts.now }
+    requires below { below ≤ length names.now.tables.program.stmts }
+    requires next { next < length bodies.old.steps }
+    ensures { IfOk result (IsEmitted (setting_of names.now) bodies.old next bodies.new (block_code (setting_of names.now) stmts.now)) }
+{
+    let mut first = next;
+    let mut written = VarSet::new();
+    let mut left = stmts.len();
+    while left > 0 {
+        left -= 1;
+        let stmt = number_stmt(alloc, bodies, names, place(below, stmts, left), first)?;
+        first = stmt.first;
+        written = written.union(stmt.written);
+    }
+    Ok(Fragment { first, written })
+}
+
+/// A place of a block.
+fn place(below: usize, stmts: &[u32], at: usize) -> usize
+    requires inside { AllBelow below stmts.now }
+    requires at { at < length stmts.now }
+    ensures place { result ≡ slice_index stmts.now at }
+    ensures below { result < below }
+{
+    let _below = below;
+    stmts[at] as usize
+}
+
+fn stmt_at<'a>(names: &'a Names<'_>, at: usize) -> &'a Stmt
+    requires { at < length names.now.tables.program.stmts }
+    ensures found { slice_get names.now.tables.program.stmts at ≡ Some result.now }
+    ensures placed { KindPlaced (length names.now.tables.program.exprs) at result.now.kind }
+    ensures program { IsPlaced names.now.tables.program }
+{
+    &names.program().stmts()[at]
+}
+
+/// The statement at a place.
+#[cycle(numbering)]
+fn number_stmt(
+    alloc: Global,
+    bodies: &mut Bodies,
+    names: &Names<'_>,
+    at: usize,
+    next: u32,
+) -> Result<Fragment, NoMemory>
+    requires at { at < length names.now.tables.program.stmts }
+    requires next { next < length bodies.old.steps }
+    ensures { IfOk result (IsEmitted (setting_of names.now) bodies.old next bodies.new (stmt_code (setting_of names.now) at)) }
+{
+    let stmt = stmt_at(names, at);
+    let head = stmt.head;
+    match &stmt.kind {
+        StmtKind::If(e, yes, no) => number_if(alloc, bodies, names, at, head, *e, yes, no, next),
+        StmtKind::While(e, body) => number_while(alloc, bodies, names, at, head, *e, body, next),
+        StmtKind::Par(left, right) => number_par(alloc, bodies, names, at, head, left, right, next),
+        StmtKind::Assign(_, x, rhs) => number_assignment(
+            alloc, bodies, names, at, stmt, *x, rhs, next,
+        ),
+        _ => number_plain(alloc, bodies, names, stmt, next),
+    }
+}
+
+/// An assignment, which may be a recover.
+#[cycle(numbering)]
+fn number_assignment(
+    alloc: Global,
+    bodies: &mut Bodies,
+    names: &Names<'_>,
+    at: usize,
+    stmt: &Stmt,
+    x: Ident,
+    rhs: &Rhs,
+    next: u32,
+) -> Result<Fragment, NoMemory>
+    requires is { IsAssignment stmt.now.kind x rhs.now }
+    requires placed { KindPlaced (length names.now.tables.program.exprs) at stmt.now.kind }
+    requires at { at < length names.now.tables.program.stmts }
+    requires next { next < length bodies.old.steps }
+    ensures { IfOk result (IsEmitted (setting_of names.now) bodies.old next bodies.new (kind_code (setting_of names.now) (codes_of (setting_of names.now)) stmt.now stmt.now.kind)) }
+{
+    match rhs {
+        Rhs::Recover(block, w, give) => {
+            let w = names.variable(*w)?;
+            let x = names.variable(x)?;
+            number_recover(
+                alloc, bodies, names, at, stmt.head, x, block, w, *give, next,
+            )
+        }
+        _ => number_plain(alloc, bodies, names, stmt, next),
+    }
+}
+
+/// A statement without blocks.
+fn number_plain(
+    alloc: Global,
+    bodies: &mut Bodies,
+    names: &Names<'_>,
+    stmt: &Stmt,
+    next: u32,
+) -> Result<Fragment, NoMemory>
+    requires simple { IsSimpleKind (length names.now.tables.program.exprs) stmt.now.kind }
+    requires next { next < length bodies.old.steps }
+    ensures { IfOk result (IsEmitted (setting_of names.now) bodies.old next bodies.new (kind_code (setting_of names.now) (codes_of (setting_of names.now)) stmt.now stmt.now.kind)) }
+{
+    let action = number_simple(alloc, bodies, names, &stmt.kind)?;
+    let written = written_by(bodies, action);
+    let first = emit(bodies, stmt.span, next, action)?;
+    Ok(Fragment { first, written })
+}
+
+/// A block that stands alone, and what it writes of the outer variables.
+#[cycle(numbering)]
+fn number_braced(
+    alloc: Global,
+    bodies: &mut Bodies,
+    names: &Names<'_>,
+    below: usize,
+    block: &Block,
+    next: u32,
+) -> Result<Fragment, NoMemory>
+    requires inside { AllBelow below block.now.stmts }
+    requires below { below ≤ length names.now.tables.program.stmts }
+    requires next { next < length bodies.old.steps }
+    ensures { IfOk result (IsBlockEmitted (setting_of names.now) bodies.old next bodies.new block.now.stmts) }
+{
+    let stmts = block.stmts.as_slice();
+    let Fragment { first, written } = number_block(alloc, bodies, names, below, stmts, next)?;
+    Ok(Fragment {
+        first,
+        written: outer(written, names, below, stmts)?,
+    })
+}
+
+/// The block behind `else`.
+#[cycle(numbering)]
+fn number_else(
+    alloc: Global,
+    bodies: &mut Bodies,
+    names: &Names<'_>,
+    below: usize,
+    block: &Option<Block>,
+    next: u32,
+) -> Result<Fragment, NoMemory>
+    requires inside { ElseBelow below block.now }
+    requires below { below ≤ length names.now.tables.program.stmts }
+    requires next { next < length bodies.old.steps }
+    ensures { IfOk result (IsBlockEmitted (setting_of names.now) bodies.old next bodies.new (else_stmts block.now)) }
+{
+    match block {
+        Some(block) => number_braced(alloc, bodies, names, below, block, next),
+        None => Ok(Fragment {
+            first: next,
+            written: VarSet::new(),
+        }),
+    }
+}
+
+#[cycle(numbering)]
+fn number_if(
+    alloc: Global,
+    bodies: &mut Bodies,
+    names: &Names<'_>,
+    at: usize,
+    head: Span,
+    condition: u32,
+    yes: &Block,
+    no: &Option<Block>,
+    next: u32,
+) -> Result<Fragment, NoMemory>
+    requires condition { condition < length names.now.tables.program.exprs }
+    requires yes { AllBelow at yes.now.stmts }
+    requires no { ElseBelow at no.now }
+    requires at { at < length names.now.tables.program.stmts }
+    requires next { next < length bodies.old.steps }
+    ensures { IfOk result (IsEmitted (setting_of names.now) bodies.old next bodies.new (if_code (setting_of names.now) head condition yes.now.stmts (else_stmts no.now))) }
+{
+    let no = number_else(alloc, bodies, names, at, no, next)?;
+    let yes = number_braced(alloc, bodies, names, at, yes, next)?;
+    let condition = number_expression(alloc, bodies, names, condition)?;
+    Ok(Fragment {
+        first: emit(bodies, head, yes.first, Action::If(condition, no.first))?,
+        written: yes.written.union(no.written),
+    })
+}
+
+/// The loop's own step takes its place before the body, which leads back to it.
+#[cycle(numbering)]
+fn number_while(
+    alloc: Global,
+    bodies: &mut Bodies,
+    names: &Names<'_>,
+    at: usize,
+    head: Span,
+    condition: u32,
+    body: &Block,
+    next: u32,
+) -> Result<Fragment, NoMemory>
+    requires condition { condition < length names.now.tables.program.exprs }
+    requires body { AllBelow at body.now.stmts }
+    requires at { at < length names.now.tables.program.stmts }
+    requires next { next < length bodies.old.steps }
+    ensures { IfOk result (IsEmitted (setting_of names.now) bodies.old next bodies.new (while_code (setting_of names.now) head condition body.now.stmts)) }
+{
+    let condition = number_expression(alloc, bodies, names, condition)?;
+    let first = emit(bodies, head, next, Action::End)?;
+    let body = number_braced(alloc, bodies, names, at, body, first)?;
+    settle(
+        bodies,
+        first,
+        head,
+        next,
+        Action::While(condition, body.first),
+    );
+    Ok(Fragment {
+        first,
+        written: body.written,
+    })
+}
+
+/// Both sides lead to one end.
+#[cycle(numbering)]
+fn number_par(
+    alloc: Global,
+    bodies: &mut Bodies,
+    names: &Names<'_>,
+    at: usize,
+    head: Span,
+    left: &Block,
+    right: &Block,
+    next: u32,
+) -> Result<Fragment, NoMemory>
+    requires left { AllBelow at left.now.stmts }
+    requires right { AllBelow at right.now.stmts }
+    requires at { at < length names.now.tables.program.stmts }
+    requires next { next < length bodies.old.steps }
+    ensures { IfOk result (IsEmitted (setting_of names.now) bodies.old next bodies.new (par_code (setting_of names.now) head left.now.stmts right.now.stmts)) }
+{
+    let end = emit(bodies, head, next, Action::End)?;
+    let left = number_braced(alloc, bodies, names, at, left, end)?;
+    let right = number_braced(alloc, bodies, names, at, right, end)?;
+    let first = emit_par(bodies, head, next, left, right)?;
+    Ok(Fragment {
+        first,
+        written: left.written.union(right.written),
+    })
+}
+
+/// The step of a par whose sides are there.
+fn emit_par(
+    bodies: &mut Bodies,
+    head: Span,
+    next: u32,
+    left: Fragment,
+    right: Fragment,
+) -> Result<u32, NoMemory>
+    ensures place { IfOk result (λ at. at ≡ length bodies.old.steps) }
+    ensures bodies { IfOk result (λ _. HasPar head next left right bodies.old bodies.new) }
+{
+    let sides = Sides {
+        left: left.written,
+        right: right.written,
+    };
+    let place = add_sides(bodies, sides)?;
+    emit(
+        bodies,
+        head,
+        next,
+        Action::Par(left.first, right.first, place),
+    )
+}
+
+/// The recover block leads to its `give`, and that to what comes next.
+#[cycle(numbering)]
+fn number_recover(
+    alloc: Global,
+    bodies: &mut Bodies,
+    names: &Names<'_>,
+    at: usize,
+    head: Span,
+    x: u32,
+    block: &Block,
+    given: u32,
+    give: Span,
+    next: u32,
+) -> Result<Fragment, NoMemory>
+    requires inside { AllBelow at block.now.stmts }
+    requires at { at < length names.now.tables.program.stmts }
+    requires next { next < length bodies.old.steps }
+    ensures { IfOk result (IsEmitted (setting_of names.now) bodies.old next bodies.new (recover_code (setting_of names.now) head x block.now.stmts given give)) }
+{
+    let stmts = block.stmts.as_slice();
+    let end = emit(bodies, give, next, Action::Give(given, x))?;
+    let body = number_block(alloc, bodies, names, at, stmts, end)?;
+    let first = emit(bodies, head, body.first, Action::Recover)?;
+    let inner = with(with(body.written, given), x);
+    Ok(Fragment {
+        first,
+        written: with(outer(inner, names, at, stmts)?, x),
+    })
+}
