@@ -84,19 +84,19 @@ made-written (Give at w z) x e = or_right (just w x) (just z x) e
 made-written (Return at a) x e = absurd (let no : ⊥ = cc e in no)
 made-written (Do at i rest) x e = then-made (instruction_effect i) (plus (consumes i) (assigns i)) (written rest) (effect rest) (instruction-made i) (made-written rest) x e
 made-written (If at t own1 a own2 b rest) x e =
-    let W1 = block_writes own1 a in
-    let W2 = block_writes own2 b in
-    regroup W1 W2 (written rest) x
-    (then-made (effects.either (block_effect own1 a) (block_effect own2 b)) (plus W1 W2) (written rest) (effect rest)
-    (λ y q. or_left (W1 y) (W2 y) (block-made own1 a (made-written a) y (both ((block_effect own1 a).made y) ((block_effect own2 b).made y) q).0)) (made-written rest) x e)
+    let writes1 = block_writes own1 a in
+    let writes2 = block_writes own2 b in
+    regroup writes1 writes2 (written rest) x
+    (then-made (effects.either (block_effect own1 a) (block_effect own2 b)) (plus writes1 writes2) (written rest) (effect rest)
+    (λ y q. or_left (writes1 y) (writes2 y) (block-made own1 a (made-written a) y (both ((block_effect own1 a).made y) ((block_effect own2 b).made y) q).0)) (made-written rest) x e)
 made-written (While at t own body rest) x e =
     then-made (effects.repeated (block_effect own body)) (block_writes own body) (written rest) (effect rest) (λ y q. absurd (let no : ⊥ = cc q in no)) (made-written rest) x e
 made-written (Par at own1 a own2 b rest) x e =
-    let W1 = block_writes own1 a in
-    let W2 = block_writes own2 b in
-    regroup W1 W2 (written rest) x
-    (then-made (effects.both (block_effect own1 a) (block_effect own2 b)) (plus W1 W2) (written rest) (effect rest)
-    (within-plus (block_effect own1 a).made W1 (block_effect own2 b).made W2 (block-made own1 a (made-written a)) (block-made own2 b (made-written b))) (made-written rest) x e)
+    let writes1 = block_writes own1 a in
+    let writes2 = block_writes own2 b in
+    regroup writes1 writes2 (written rest) x
+    (then-made (effects.both (block_effect own1 a) (block_effect own2 b)) (plus writes1 writes2) (written rest) (effect rest)
+    (within-plus (block_effect own1 a).made writes1 (block_effect own2 b).made writes2 (block-made own1 a (made-written a)) (block-made own2 b (made-written b))) (made-written rest) x e)
 made-written (Recover at z own hides body rest) x e =
     or_right (just z x) (plus (block_writes own body) (written rest) x)
     (then-made (block_effect own body) (block_writes own body) (written rest) (effect rest) (block-made own body (made-written body)) (made-written rest) x e)
