@@ -6,7 +6,8 @@ use Rattle.perm_meaning.specs.Machine.{Own, Frame, OpenBlock, OpenRecover, OpenC
 use Rattle.perm_meaning.specs.NamedHeap.{memory}
 use Rattle.perm_meaning.specs.Steps.{Memory, Answer, Found, Refused, Missing, State, within, answered, asked, step, runs}
 use Rattle.perm_meaning.proofs.Leads.{some_inj, none_some}
-use Rattle.perm_core.specs.Core.{core, opening_state}
+use Rattle.perm_meaning.specs.Outcome.{opening_state}
+use Rattle.perm_core.specs.Core.{core}
 use Rattle.perm_core.specs.Claims.{FewEvents}
 
 -- ---------- turns ----------

@@ -18,10 +18,9 @@ use Rattle.perm_meaning.specs.Names.{Name, input_name, root_name, root_mark, sam
 use Rattle.perm_meaning.specs.Objects.{Objects, zero_of, types_or_none, new_object, input_object, this_or}
 use Rattle.perm_meaning.specs.Machine.{Way, Here}
 use Rattle.perm_meaning.specs.NamedHeap.{Held}
-use Rattle.perm_meaning.specs.Outcome.{opening_heap, opening_own}
+use Rattle.perm_meaning.specs.Outcome.{opening_heap, opening_own, opening_state}
 use Rattle.perm_meaning.proofs.Leads.{some_inj, none_some}
 use Rattle.perm_meaning.proofs.SameName.{eq_itself, name_true, together}
-use Rattle.perm_core.specs.Core.{opening_state}
 use Rattle.perm_core.specs.Endings.{ByReturn, ends, is_settled}
 use Rattle.perm_rules.specs.Scoping.{is_scoped}
 use Rattle.perm_core.specs.Marked.{calls_right}

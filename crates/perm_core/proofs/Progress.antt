@@ -2,7 +2,7 @@
 use Rattle.std.proofs.Common.{◌≡◌, ℕ, zero, suc, ◌+◌, ◌<◌, Bool, true, false, Option, Some, None, List, [], ◌∷◌, ◌++◌, length, length-append, refl, sym, ap, subst, ◌∙◌, arith}
 use Rattle.std.specs.Prelude.{ℤ, pos, negsuc, not, ◌&&◌, cond, nat_lt, nat_eq, get_or, slice_get}
 use Rattle.std.specs.List.{list_any}
-use Rattle.std.proofs.lemmas.Bool.{or_parts, not-false}
+use Rattle.std.proofs.lemmas.Bool.{or_parts, not-false, and_parts}
 use Rattle.std.proofs.lemmas.Bool.Decides.{nat_tests}
 use Rattle.std.proofs.lemmas.Option.{slice_get-get_or}
 use Rattle.perm_tree.specs.declared.ast.Shape.TheVariants.{Class, Array}
@@ -28,7 +28,7 @@ use Rattle.perm_core.specs.Picture.{has_shape, length_fits, value_fits, fields_f
 use Rattle.perm_meaning.specs.NamedHeap.{Held, Op}
 use Rattle.perm_core.proofs.Evaluation.{IsOfType, IsOfSort, Evaluates, AreTyped, plain-long, variable-evaluates, term-evaluates}
 use Rattle.perm_meaning.proofs.Leads.{some_inj, none_some}
-use Rattle.perm_meaning.proofs.SameName.{both, eq_true, eq_itself}
+use Rattle.perm_meaning.proofs.SameName.{eq_true, eq_itself}
 use Rattle.perm_core.proofs.TwoOperations.{get-beside}
 use Rattle.perm_core.proofs.LeafOperations.{Lose, clear-loses}
 
@@ -155,14 +155,14 @@ module _ (u : UnitCode) (labels : Labels) (h : Objects Name) where
   -- a reference that has the shape of a type leads to an object of that shape
   shaped : (o : Option (Object Name)) (s : Shape) (len : ℕ) → has_shape o s len ≡ true → (x : Object Name) × (o ≡ Some x) × (same_shape x.shape s ≡ true) × (length_fits s (length x.values) len ≡ true)
   shaped None s len e = absurd (cc)
-  shaped (Some x) s len e = let p = both (same_shape x.shape s) (length_fits s (length x.values) len) e in (x, refl, p.0, p.1)
+  shaped (Some x) s len e = let p = and_parts (same_shape x.shape s) (length_fits s (length x.values) len) e in (x, refl, p.0, p.1)
 
   field-value : (o : Name) (f i : ℕ) (ts : List Ty) (vs : List (Value Name)) (t : Ty) → fields_fit u labels h o i ts vs ≡ true → slice_get ts f ≡ Some t → (v : Value Name) × (slice_get vs f ≡ Some v)
   field-value o f i [] vs t e q = none_some q
   field-value o f i (t' ∷ ts) [] t e q = absurd (cc)
   field-value o zero i (t' ∷ ts) (v ∷ vs) t e q = (v, refl)
   field-value o (suc f) i (t' ∷ ts) (v ∷ vs) t e q =
-      field-value o f (suc i) ts vs t (both (value_fits h (λ p n. field_may_lead p (OfField o i) (labels o) (labels n)) t' v) (fields_fit u labels h o (suc i) ts vs) e).1 q
+      field-value o f (suc i) ts vs t (and_parts (value_fits h (λ p n. field_may_lead p (OfField o i) (labels o) (labels n)) t' v) (fields_fit u labels h o (suc i) ts vs) e).1 q
 
   among : (o : Option (List Ty)) (f : ℕ) (t : Ty) → field_among o f ≡ Some t → (ts : List Ty) × (o ≡ Some ts) × (slice_get ts f ≡ Some t)
   among None f t e = none_some e
@@ -173,7 +173,7 @@ module _ (u : UnitCode) (labels : Labels) (h : Objects Name) where
       let x = shaped (h r) (Class k) len shape in
       let d = among (slice_get u.classes k) f t field in
       let whole = sym (ap (λ z. object_fits u labels h r z) x.1) ∙ fit in
-      let values = (both (not (is_absent (labels r))) (values_fit u labels h r x.0.shape x.0.values) whole).1 in
+      let values = (and_parts (not (is_absent (labels r))) (values_fit u labels h r x.0.shape x.0.values) whole).1 in
       let of_class = sym (ap (λ z. values_fit u labels h r z x.0.values) (same-shape-true x.0.shape k x.2)) ∙ values in
       let fields = sym (ap (λ z. class_fits u labels h r z x.0.values) d.1) ∙ of_class in
       let v = field-value r f 0 d.0 x.0.values t fields d.2 in

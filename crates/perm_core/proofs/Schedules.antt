@@ -4,8 +4,8 @@ use Rattle.perm_tree.specs.Code.{UnitCode, Routine}
 use Rattle.perm_meaning.specs.Machine.{Leaf, Fork, Way, Here, GoL, GoR}
 use Rattle.perm_meaning.specs.Effects.{choose}
 use Rattle.perm_meaning.specs.NamedHeap.{Task, State}
-use Rattle.perm_meaning.specs.Outcome.{Outcome, RanFull, opening_need}
-use Rattle.perm_core.specs.Core.{step, opening_state, core_outcome}
+use Rattle.perm_meaning.specs.Outcome.{Outcome, RanFull, opening_need, opening_state}
+use Rattle.perm_core.specs.Core.{step, core_outcome}
 
 -- the nodes of one side before those of the other, and the parent last
 abbrev pub in_order : Bool → List Way → List Way → List Way

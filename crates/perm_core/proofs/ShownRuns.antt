@@ -17,6 +17,7 @@ use Rattle.perm_meaning.specs.WordHeap as worded
 use Rattle.perm_meaning.specs.Steps.{within}
 use Rattle.perm_meaning.proofs.Shown.{code}
 use Rattle.perm_core.specs.Core as core
+use Rattle.perm_meaning.specs.Outcome as outcomes
 use Rattle.perm_core.specs.WordCore as word_core
 use Rattle.perm_core.proofs.RegionPrograms.{moving_regions, failing_regions}
 use Rattle.perm_core.proofs.Schedules.{Policy, LeftFirst, RightFirst, InTurn, next_policy, next_way}
@@ -110,7 +111,7 @@ unshown u limit p (suc n) bs s t =
 abbrev unshown_from : UnitCode → List ℤ → ℕ → ℕ → Policy → Option Routine → ℕ
 unshown_from u input turns limit p None = 1
 unshown_from u input turns limit p (Some r) =
-    unshown u limit p 400 ((input_name, 0) ∷ (root_name, size (length input)) ∷ []) (core.opening_state u input turns r) (worded.opening_state u input turns r)
+    unshown u limit p 400 ((input_name, 0) ∷ (root_name, size (length input)) ∷ []) (outcomes.opening_state u input turns r) (worded.opening_state u input turns r)
 
 -- 0 where the run on words shows that on names throughout
 abbrev unshown_in : Source → List ℤ → ℕ → ℕ → Policy → ℕ

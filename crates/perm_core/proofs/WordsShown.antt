@@ -19,7 +19,8 @@ use Rattle.perm_meaning.proofs.Moved.{routine_fits}
 use Rattle.perm_meaning.proofs.OpeningShown.{opening_bases, opening_kept, opening_shown}
 use Rattle.perm_meaning.proofs.Related.{StageR, stage_alike, final_alike}
 use Rattle.perm_meaning.proofs.WordsRun.{within_small, words_step}
-use Rattle.perm_core.specs.Core.{core, look, step, runs, opening_state}
+use Rattle.perm_meaning.specs.Outcome.{opening_state}
+use Rattle.perm_core.specs.Core.{core, look, step, runs}
 use Rattle.perm_core.specs.WordCore as word_core
 use Rattle.perm_core.specs.WordCore.{word_core as machine}
 use Rattle.perm_core.specs.Claims.{WordsShowRuns, WordsFollow, WordsDoNoMore, AllHaveNext, leaf_at}

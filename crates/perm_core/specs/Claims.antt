@@ -8,8 +8,8 @@ use Rattle.perm_meaning.specs.Effects.{Make}
 use Rattle.perm_meaning.specs.NamedHeap as named
 use Rattle.perm_meaning.specs.NamedHeap.{Op, Task, State, has_room}
 use Rattle.perm_meaning.specs.Steps.{Lone, Run, lone_task, lone_way, lone_on, lone_of, within}
-use Rattle.perm_meaning.specs.Outcome.{opening_need}
-use Rattle.perm_core.specs.Core.{look, step, runs, IsLawful, opening_state, Conflict}
+use Rattle.perm_meaning.specs.Outcome.{opening_need, opening_state}
+use Rattle.perm_core.specs.Core.{look, step, runs, IsLawful, Conflict}
 use Rattle.perm_meaning.specs.WordHeap as worded
 use Rattle.perm_core.specs.WordCore as word_core
 use Rattle.perm_meaning.specs.Literals.{NumbersFit, UnitFits}

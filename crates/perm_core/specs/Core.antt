@@ -9,7 +9,7 @@ use Rattle.perm_meaning.specs.Custody.{Moves}
 use Rattle.perm_meaning.specs.NamedHeap.{Held, Op, Branch, Task, State, named, memory}
 use Rattle.perm_meaning.specs.Steps as steps
 use Rattle.perm_meaning.specs.Steps.{within}
-use Rattle.perm_meaning.specs.Outcome.{Outcome, opening_own, opening_heap, reported}
+use Rattle.perm_meaning.specs.Outcome.{Outcome, reported}
 
 -- the machine of the core: what a branch hands on has one holder at a time
 abbrev pub core : UnitCode → Machine Held Mark Op
@@ -35,15 +35,6 @@ module _ (u : UnitCode) where
   -- the list ends with the root as an ended leaf
   abbrev pub IsComplete : ℕ → List Way → State → Type 0
   IsComplete limit ws s = (f : Final Held) × steps.IsComplete (step limit) ws s f
-
-  -- ---------- the opening ----------
-  -- the branch that is about to run the body of `Run`
-  abbrev pub opening_branch : List ℤ → ℕ → Routine → Branch
-  opening_branch input turns r = record { own = opening_own u input r; turns = turns; code = r.code; stack = []; close = None }
-
-  -- one branch that is about to run the body of `Run`
-  abbrev pub opening_state : List ℤ → ℕ → Routine → State
-  opening_state input turns r = record { task = Leaf (opening_branch input turns r); heap = opening_heap u input }
 
 -- ---------- the end ----------
 -- what is told of a root that has ended so

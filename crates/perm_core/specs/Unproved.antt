@@ -4,8 +4,8 @@ use Rattle.perm_tree.specs.Code.{Routine, UnitCode}
 use Rattle.perm_meaning.specs.Machine.{Way, Final, final}
 use Rattle.perm_meaning.specs.NamedHeap as named
 use Rattle.perm_meaning.specs.NamedHeap.{State}
-use Rattle.perm_meaning.specs.Outcome.{RanFull, outcome}
-use Rattle.perm_core.specs.Core.{step, runs, IsComplete, opening_state, core_outcome}
+use Rattle.perm_meaning.specs.Outcome.{RanFull, outcome, opening_state}
+use Rattle.perm_core.specs.Core.{step, runs, IsComplete, core_outcome}
 use Rattle.perm_core.specs.Regions.{Labels}
 use Rattle.perm_core.specs.Picture.{IsPicture}
 use Rattle.perm_core.specs.NextPicture.{next_picture}

@@ -12,8 +12,7 @@ use Rattle.perm_meaning.specs.Objects.{Object, size, zero_of, field_types, new_o
 use Rattle.perm_meaning.specs.NamedHeap.{Heap}
 use Rattle.perm_meaning.specs.WordHeap as on_words
 use Rattle.perm_meaning.specs.WordHeap.{Cells, opening_word, input_word, root_word}
-use Rattle.perm_meaning.specs.Outcome.{opening_need, opening_heap}
-use Rattle.perm_meaning.specs.Claims.{opening_state}
+use Rattle.perm_meaning.specs.Outcome.{opening_need, opening_heap, opening_state}
 use Rattle.perm_meaning.specs.Shows.{Bases, IsWordOf, IsWithin, HeapShown, IsShownBy}
 use Rattle.perm_meaning.specs.Literals.{CodeFits, NumbersFit}
 use Rattle.perm_meaning.proofs.Leads.{some_inj, none_some}
@@ -40,7 +39,8 @@ item_word b [] f v h e = none_some e
 item_word b (n ∷ ns) zero v h e = subst (λ z. IsWordOf b (Some z) (number_word n)) (some_inj e) (number_back n h.0, word_below n h.0)
 item_word b (n ∷ ns) (suc f) v h e = item_word b ns f v h.1 e
 
-past_input : (ns : List ℤ) (i : ℕ) → length ns ≤ i → opening_word ns i ≡ 0
+-- behind the input nothing was written
+pub past_input : (ns : List ℤ) (i : ℕ) → length ns ≤ i → opening_word ns i ≡ 0
 past_input [] i h = refl
 past_input (n ∷ ns) zero h = absurd (omega arith)
 past_input (n ∷ ns) (suc i) h = past_input ns i (omega arith)
@@ -131,7 +131,7 @@ module _ (u : UnitCode) (input : List ℤ) (fit : NumbersFit input) where
   heap_shown = made u (first_bases input) (first_heap input) (first_cells input) (first_shown input fit) root_name (Class u.main) fields refl (fields_many (field_types u u.main))
 
   -- the opening is shown
-  pub opening_shown : (limit turns : ℕ) (r : Routine) → opening_need u input ≤ limit → limit < 2 ^ 32 → IsShownBy opening_bases (opening_state u limit input turns r) (on_words.opening_state u input turns r)
+  pub opening_shown : (limit turns : ℕ) (r : Routine) → opening_need u input ≤ limit → limit < 2 ^ 32 → IsShownBy opening_bases (opening_state u input turns r) (on_words.opening_state u input turns r)
   opening_shown limit turns r le small =
       record {
         task =
@@ -154,7 +154,7 @@ module _ (u : UnitCode) (input : List ℤ) (fit : NumbersFit input) where
       }
 
 -- the names to come are new
-pub opening_kept : (u : UnitCode) (limit : ℕ) (input : List ℤ) (turns : ℕ) (r : Routine) → CodeFits r.code → TaskKept [] (opening_heap u input).objects (opening_state u limit input turns r).task
+pub opening_kept : (u : UnitCode) (limit : ℕ) (input : List ℤ) (turns : ℕ) (r : Routine) → CodeFits r.code → TaskKept [] (opening_heap u input).objects (opening_state u input turns r).task
 opening_kept u limit input turns r f = record { path = refl; before = before; code = f; stack = tt }
   where
     is_one : (n : Name) → (n ≡ input_name) → IsBefore root_mark n

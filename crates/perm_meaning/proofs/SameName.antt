@@ -1,16 +1,11 @@
 -- The tests of names.
 use Rattle.std.proofs.Common.{◌≡◌, ℕ, Bool, true, false, [], ◌∷◌, refl, sym, ap, ◌∙◌, arith}
 use Rattle.std.specs.Prelude.{nat_eq, ◌&&◌}
+use Rattle.std.proofs.lemmas.Bool.{and_parts}
 use Rattle.std.proofs.lemmas.Bool.Decides.{nat_tests}
 use Rattle.perm_meaning.specs.Names.{Side, OnLeft, OnRight, Path, Name, same_side, same_path, same_name}
 
--- two tests that hold together hold each
-pub both : (a b : Bool) → (a && b) ≡ true → (a ≡ true) × (b ≡ true)
-both true true e = (refl, refl)
-both true false e = absurd (cc)
-both false b e = absurd (cc)
-
--- and the other way round
+-- two tests that hold each hold together
 pub together : (a b : Bool) → a ≡ true → b ≡ true → (a && b) ≡ true
 together true b e q = q
 together false b e q = absurd (cc)
@@ -42,8 +37,8 @@ path_true [] [] e = refl
 path_true [] (b ∷ q) e = absurd (cc)
 path_true (a ∷ p) [] e = absurd (cc)
 path_true (a ∷ p) (b ∷ q) e =
-    let x = both (nat_eq a.0 b.0 && same_side a.1 b.1) (same_path p q) e in
-    let y = both (nat_eq a.0 b.0) (same_side a.1 b.1) x.0 in
+    let x = and_parts (nat_eq a.0 b.0 && same_side a.1 b.1) (same_path p q) e in
+    let y = and_parts (nat_eq a.0 b.0) (same_side a.1 b.1) x.0 in
     let n = eq_true a.0 b.0 y.0 in
     let s = side_true a.1 b.1 y.1 in
     let r = path_true p q x.1 in
@@ -56,7 +51,7 @@ path_itself (a ∷ p) = together (nat_eq a.0 a.0 && same_side a.1 a.1) (same_pat
 -- names that pass the test are one
 pub name_true : (a b : Name) → same_name a b ≡ true → a ≡ b
 name_true a b e =
-    let x = both (nat_eq a.count b.count) (same_path a.by b.by) e in
+    let x = and_parts (nat_eq a.count b.count) (same_path a.by b.by) e in
     let n = eq_true a.count b.count x.0 in
     let p = path_true a.by b.by x.1 in
     λ i. record { by = p i; count = n i }

@@ -9,8 +9,8 @@ use Rattle.perm_meaning.specs.Custody.{Copies}
 use Rattle.perm_meaning.specs.NamedHeap.{Heap, Held, Op, Branch, Final, State, named, memory, find}
 use Rattle.perm_meaning.specs.Steps.{Refused, within, alone, leftmost}
 use Rattle.perm_meaning.specs.Meaning.{Result, Well, Gave, Handed, Fails, Full, Stuck, mean}
-use Rattle.perm_meaning.specs.Outcome.{RanFull, RanStuck, outcome, outcome_from, reported, reported_result, opening, opening_heap, opening_need}
-use Rattle.perm_meaning.specs.Claims.{EndsAsMeaning, FillsAsMeaning, opening_state}
+use Rattle.perm_meaning.specs.Outcome.{RanFull, RanStuck, outcome, outcome_from, reported, reported_result, opening, opening_heap, opening_need, opening_state}
+use Rattle.perm_meaning.specs.Claims.{EndsAsMeaning, FillsAsMeaning}
 use Rattle.perm_meaning.proofs.Reached.{Follows}
 use Rattle.perm_meaning.proofs.OneTurn.{at_empty}
 use Rattle.perm_meaning.proofs.Serial.{mean_follows}
@@ -25,7 +25,7 @@ module _ (u : UnitCode) (limit : ℕ) (input : List ℤ) (turns : ℕ) where
   body_result r = mean u (within limit) turns r.code (opening u input turns r)
 
   -- the opening follows the meaning of the body of `Run`
-  opening_follows : (r : Routine) → Follows u (within limit) End [] turns (opening_state u limit input turns r) (body_result r)
+  opening_follows : (r : Routine) → Follows u (within limit) End [] turns (opening_state u input turns r) (body_result r)
   opening_follows r =
       subst (λ (z : Branch). Follows u (within limit) End [] turns (record { task = Leaf z; heap = opening_heap u input }) (body_result r))
       (at_empty u r.code (opening u input turns r)) (mean_follows u (within limit) turns r.code (opening u input turns r) [] (le_refl turns))
@@ -68,9 +68,9 @@ module _ (u : UnitCode) (limit : ℕ) (input : List ℤ) (turns : ℕ) where
   pub ends_as_meaning : EndsAsMeaning u limit input turns
   ends_as_meaning r e le h k =
       let q = outcome_is r e le in
-      let x = ends_from (opening_state u limit input turns r) (body_result r) (opening_follows r) (λ z. h (q ∙ z)) (λ z. k (q ∙ z)) in
+      let x = ends_from (opening_state u input turns r) (body_result r) (opening_follows r) (λ z. h (q ∙ z)) (λ z. k (q ∙ z)) in
       (x.0, x.1, x.2, x.3, x.4, x.5 ∙ sym q)
 
   -- a run that the heap doesn't hold comes to the allocation that is refused
   pub fills_as_meaning : FillsAsMeaning u limit input turns
-  fills_as_meaning r e le h = fills_from (opening_state u limit input turns r) (body_result r) (opening_follows r) (sym (outcome_is r e le) ∙ h)
+  fills_as_meaning r e le h = fills_from (opening_state u input turns r) (body_result r) (opening_follows r) (sym (outcome_is r e le) ∙ h)

@@ -18,9 +18,9 @@ use Rattle.perm_meaning.specs.Steps.{Refused, alone, step, leftmost, within}
 use Rattle.perm_meaning.specs.Relate.{OptionR, FinalR}
 use Rattle.perm_meaning.specs.Shows.{Bases, Grows, IsWordOf, AnyMark, HeapShown, IsShownBy}
 use Rattle.perm_meaning.specs.Literals.{UnitFits}
-use Rattle.perm_meaning.specs.Outcome.{Outcome, Report, Ran, RanFull, RanStuck, reported}
+use Rattle.perm_meaning.specs.Outcome.{Outcome, Report, Ran, RanFull, RanStuck, reported, opening_state}
 use Rattle.perm_meaning.specs.Told.{IsTold}
-use Rattle.perm_meaning.specs.Claims.{opening_state, BeginsOnWords, AfterLeftFirstOnWords, WordsShowNames, WordsEndAsMeaning, WordsFillAsMeaning}
+use Rattle.perm_meaning.specs.Claims.{BeginsOnWords, AfterLeftFirstOnWords, WordsShowNames, WordsEndAsMeaning, WordsFillAsMeaning}
 use Rattle.perm_meaning.proofs.Leads.{some_inj, none_some}
 use Rattle.perm_meaning.proofs.Related.{final_alike, leftmost_alike}
 use Rattle.perm_meaning.proofs.Simulate.{AllFit, IsAlike, IsFit, same_step, same_refusal, same_alone}
@@ -137,10 +137,10 @@ other_end b (Some x) (Some g) f h e = (g, refl, subst (λ z. FinalR (IsWordOf b)
 -- ---------- the laws ----------
 module _ (u : UnitCode) (limit : ℕ) where
   -- the words show the names after so many events
-  shown_after : (c : Custody) (input : List ℤ) (turns : ℕ) (r : Routine) (i : BeginsOnWords u limit input r) (n : ℕ) (s : State) → alone (named c u) (memory u) (within limit) n (opening_state u limit input turns r) ≡ Some s
+  shown_after : (c : Custody) (input : List ℤ) (turns : ℕ) (r : Routine) (i : BeginsOnWords u limit input r) (n : ℕ) (s : State) → alone (named c u) (memory u) (within limit) n (opening_state u input turns r) ≡ Some s
       → (d : Bases) × (t : on_words.State) × AfterLeftFirstOnWords u limit c input turns r n t × Grows (opening_bases u input i.numbers) d × IsShownBy d s t × IsKept c u i.code (within limit) s
   shown_after c input turns r i n s e =
-      words_alone c u i.code (within limit) (within_small limit i.bases) n (opening_bases u input i.numbers) (opening_state u limit input turns r) s (on_words.opening_state u input turns r)
+      words_alone c u i.code (within limit) (within_small limit i.bases) n (opening_bases u input i.numbers) (opening_state u input turns r) s (on_words.opening_state u input turns r)
       (opening_kept u limit input turns r (routine_fits u.routines u.run r i.code i.run)) (opening_shown u input i.numbers limit turns r i.fits i.bases) e
 
 pub words_show_names : (u : UnitCode) (limit : ℕ) (c : Custody) (input : List ℤ) (turns : ℕ) → WordsShowNames u limit c input turns

@@ -5,7 +5,7 @@ use Rattle.perm_meaning.specs.Machine.{Machine, Final, Leaf, final, look}
 use Rattle.perm_meaning.specs.Custody.{Custody, Copies}
 use Rattle.perm_meaning.specs.NamedHeap.{Held, Op, State, named, memory, find}
 use Rattle.perm_meaning.specs.Steps.{Lone, AreOver, lone_task, lone_way, leftmost, alone, within, Refused}
-use Rattle.perm_meaning.specs.Outcome.{Report, Ran, RanFull, RanStuck, outcome, reported, opening_own, opening_heap, opening_need}
+use Rattle.perm_meaning.specs.Outcome.{Report, Ran, RanFull, RanStuck, outcome, reported, opening_own, opening_heap, opening_need, opening_state}
 use Rattle.perm_meaning.specs.Names.{root_name}
 use Rattle.perm_meaning.specs.Objects.{size}
 use Rattle.perm_meaning.specs.WordHeap as on_words
@@ -19,13 +19,9 @@ abbrev pub HolderGoesLeftFirst : {V G O : Type 0} → Machine V G O → Type 0
 HolderGoesLeftFirst {V} {G} {O} m = (x : Lone V G) (o : O) → AreOver x → look m (lone_way x) (lone_task x) ≡ Some o → leftmost (lone_task x) ≡ lone_way x
 
 module _ (u : UnitCode) (limit : ℕ) where
-  -- one branch that is about to run the body of `Run`
-  abbrev pub opening_state : List ℤ → ℕ → Routine → State
-  opening_state input turns r = record { task = Leaf (record { own = opening_own u input r; turns = turns; code = r.code; stack = []; close = None }); heap = opening_heap u input }
-
   -- after so many events at the leftmost node
   abbrev pub AfterLeftFirst : List ℤ → ℕ → Routine → ℕ → State → Type 0
-  AfterLeftFirst input turns r n s = alone (named Copies u) (memory u) (within limit) n (opening_state input turns r) ≡ Some s
+  AfterLeftFirst input turns r n s = alone (named Copies u) (memory u) (within limit) n (opening_state u input turns r) ≡ Some s
 
   -- the machine of names, left first, ends as the meaning says, or comes to the allocation that fills the heap
   abbrev pub EndsAsMeaning : List ℤ → ℕ → Type 0
@@ -52,7 +48,7 @@ module _ (u : UnitCode) (limit : ℕ) where
 
   -- left first, the machine on words goes step by step with the machine on names, and shows it, whichever way variables are handed on
   abbrev pub WordsShowNames : Custody → List ℤ → ℕ → Type 0
-  WordsShowNames c input turns = (r : Routine) → BeginsOnWords input r → (n : ℕ) (s : State) → alone (named c u) (memory u) (within limit) n (opening_state input turns r) ≡ Some s
+  WordsShowNames c input turns = (r : Routine) → BeginsOnWords input r → (n : ℕ) (s : State) → alone (named c u) (memory u) (within limit) n (opening_state u input turns r) ≡ Some s
       → (t : on_words.State) × AfterLeftFirstOnWords c input turns r n t × IsShown s t
 
   -- a run on words that has ended as a report tells; its heap shows the objects of the report, and the object of Main has the base that it began with

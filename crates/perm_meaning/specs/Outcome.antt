@@ -8,9 +8,9 @@ use Rattle.perm_meaning.specs.Values.{Number, Reference}
 use Rattle.perm_meaning.specs.Expressions.{tagged}
 use Rattle.perm_meaning.specs.Names.{Name, input_name, root_name, root_mark, same_name}
 use Rattle.perm_meaning.specs.Objects.{Objects, size, field_types, input_object, new_object, no_objects, add}
-use Rattle.perm_meaning.specs.Machine.{Trapped, NoTurns, NoRoom, Final, Fine, GaveBack, Failed}
+use Rattle.perm_meaning.specs.Machine.{Leaf, Trapped, NoTurns, NoRoom, Final, Fine, GaveBack, Failed}
 use Rattle.perm_meaning.specs.Effects.{first_vars}
-use Rattle.perm_meaning.specs.NamedHeap.{Heap, Held, Own}
+use Rattle.perm_meaning.specs.NamedHeap.{Branch, Heap, Held, Own, State}
 use Rattle.perm_meaning.specs.Meaning.{Moment, Result, Well, Gave, Handed, Fails, Full, Stuck, mean}
 use Rattle.perm_meaning.specs.Steps.{within}
 
@@ -49,6 +49,14 @@ opening_own u input r = record {
   printed = [];
   mark = root_mark;
 }
+
+-- the branch that is about to run the body of `Run`
+abbrev pub opening_branch : UnitCode → List ℤ → ℕ → Routine → Branch
+opening_branch u input turns r = record { own = opening_own u input r; turns = turns; code = r.code; stack = []; close = None }
+
+-- this branch alone, and the two objects
+abbrev pub opening_state : UnitCode → List ℤ → ℕ → Routine → State
+opening_state u input turns r = record { task = Leaf (opening_branch u input turns r); heap = opening_heap u input }
 
 -- the moment at which a run begins
 abbrev pub opening : UnitCode → List ℤ → ℕ → Routine → Moment

@@ -7,7 +7,7 @@ use Rattle.perm_tree.specs.declared.unit.VarInfo.{VarInfo}
 use Rattle.perm_tree.specs.Code.{Term, Instruction, Declare, Assign, LoadField, LoadLength, LoadItem, TakeField, NewObject, NewArray, StoreField, StoreItem, Invoke, Print, Code, End, Give, Return, Do, If, While, Par, Recover}
 use Rattle.perm_tree.specs.Mentions.{argument_consumes, term_mentions, mentions, consumes, assigns, mentioned, written, block_mentions, block_writes}
 use Rattle.perm_tree.specs.Vars.{Vars, none, just, below, those, plus, minus, meet, IsWithin}
-use Rattle.perm_tree.proofs.MentionLaws.{within-plus}
+use Rattle.perm_tree.proofs.MentionLaws.{within-plus, same-within, minus-within}
 use Rattle.perm_rules.specs.Parts.{Context}
 use Rattle.perm_rules.specs.Pars.{uses, sets, touched_by, touched, touches, some_var, isolated_vars}
 use Rattle.perm_rules.specs.Sharing.{SharesPlainly, AllSharePlainly}
@@ -16,12 +16,6 @@ use Rattle.perm_rules.proofs.Scoped.{Meets, LiesIn, meets-more, lies-more}
 use Rattle.perm_rules.proofs.Beginnings.{Begins, AllBegin, begins-more, begins-plus, AreBegun, begun-more, begun-none}
 
 -- ---------- what is written is touched ----------
-same-within : (G : Vars) → IsWithin G G
-same-within G x e = e
-
-minus-within : (G H : Vars) → IsWithin (minus G H) G
-minus-within G H x e = (and_parts (G x) (not (H x)) e).0
-
 writes-touched : (i : Instruction) → IsWithin (plus (consumes i) (assigns i)) (touched_by i)
 writes-touched (Declare x) y e = absurd (let no : ⊥ = cc e in no)
 writes-touched (Assign x a) y e = e

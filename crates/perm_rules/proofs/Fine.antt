@@ -6,7 +6,7 @@ use Rattle.perm_tree.specs.declared.errors.TypeKind.TheVariants.{ParShared}
 use Rattle.perm_tree.specs.Code.{Instruction, Declare, Assign, LoadField, LoadLength, LoadItem, TakeField, NewObject, NewArray, StoreField, StoreItem, Invoke, Print, Code, End, Give, Return, Do, If, While, Par, Recover}
 use Rattle.perm_tree.specs.Mentions.{argument_consumes, consumes, mentions, mentioned, just_option, any_in_option, term_mentions}
 use Rattle.perm_tree.specs.Vars.{Vars, none, just, below, those, plus, minus, meet, some_below, IsWithin}
-use Rattle.perm_tree.proofs.MentionLaws.{within-left, within-right, within-plus, within-minus}
+use Rattle.perm_tree.proofs.MentionLaws.{within-left, within-right, within-plus, within-minus, none-within, same-within}
 use Rattle.perm_rules.specs.Parts.{Context, Simple, Condition, RecoverHead, Given, Returned}
 use Rattle.perm_rules.specs.Pars.{touched, touched_by, touches, uses, par_head, some_var}
 use Rattle.perm_rules.specs.Refusals.{IsAllowed}
@@ -61,12 +61,6 @@ known_code c (Recover at x own hides body rest) G h =
     (known_plus c (minus (mentioned body) (those own)) (mentioned rest) (known_minus c (mentioned body) (those own) (known_code (hiding hides c) body G h.1)) (known_code c rest _ h.2))
 
 -- ---------- what is lost and made ----------
-nothing : (C : Vars) → IsWithin none C
-nothing C x h = cc
-
-itself : (C : Vars) → IsWithin C C
-itself C x h = h
-
 minus_in : (A B C : Vars) → IsWithin A C → IsWithin (minus A B) C
 minus_in A B C f x h = f x (and_parts (A x) (not (B x)) h).0
 
@@ -78,10 +72,10 @@ made_then : (s t : Effect) (S T : Vars) → IsWithin s.made S → IsWithin t.mad
 made_then s t S T f g = within-plus (minus s.made t.lost) S t.made T (minus_in s.made t.lost S f) g
 
 minus_taken : (C A : Vars) → IsWithin (minus C A) (plus C A)
-minus_taken C A = within-left (minus C A) C A (minus_in C A C (itself C))
+minus_taken C A = within-left (minus C A) C A (minus_in C A C (same-within C))
 
 instruction_lost : (i : Instruction) → IsWithin (instruction_effect i).lost (touched_by i)
-instruction_lost (Declare x) = itself _
+instruction_lost (Declare x) = same-within _
 instruction_lost (Assign x a) = minus_taken _ _
 instruction_lost (LoadField x y f) = minus_taken none (just x)
 instruction_lost (LoadLength x y) = minus_taken none (just x)
@@ -109,48 +103,48 @@ lost_branches own1 a own2 b rest f g h x l =
     regroup (plus (touched a) (those own1)) (plus (touched b) (those own2)) (touched rest) x
     (lost_then (both (block_effect own1 a) (block_effect own2 b)) (effect rest) (plus (plus (touched a) (those own1)) (plus (touched b) (those own2))) (touched rest)
     (within-plus _ (plus (touched a) (those own1)) _ (plus (touched b) (those own2))
-    (within-plus _ (touched a) _ (those own1) f (itself (those own1)))
-    (within-plus _ (touched b) _ (those own2) g (itself (those own2)))) h x l)
+    (within-plus _ (touched a) _ (those own1) f (same-within (those own1)))
+    (within-plus _ (touched b) _ (those own2) g (same-within (those own2)))) h x l)
 
 -- what code loses it assigns, consumes or declares
 pub lost_in : (a : Code) → IsWithin (effect a).lost (touched a)
-lost_in End = nothing _
+lost_in End = none-within _
 lost_in (Give at w x) = minus_taken (just w) (just x)
-lost_in (Return at a) = itself _
+lost_in (Return at a) = same-within _
 lost_in (Do at i rest) = lost_then (instruction_effect i) (effect rest) (touched_by i) (touched rest) (instruction_lost i) (lost_in rest)
 lost_in (If at e own1 a own2 b rest) = lost_branches own1 a own2 b rest (lost_in a) (lost_in b) (lost_in rest)
-lost_in (While at e own body rest) = lost_then (repeated (block_effect own body)) (effect rest) (plus (touched body) (those own)) (touched rest) (within-plus _ (touched body) _ (those own) (lost_in body) (itself (those own))) (lost_in rest)
+lost_in (While at e own body rest) = lost_then (repeated (block_effect own body)) (effect rest) (plus (touched body) (those own)) (touched rest) (within-plus _ (touched body) _ (those own) (lost_in body) (same-within (those own))) (lost_in rest)
 lost_in (Par at own1 a own2 b rest) = lost_branches own1 a own2 b rest (lost_in a) (lost_in b) (lost_in rest)
 lost_in (Recover at x own hides body rest) =
     within-right _ (just x) (plus (plus (touched body) (those own)) (touched rest))
-    (lost_then (block_effect own body) (effect rest) (plus (touched body) (those own)) (touched rest) (within-plus _ (touched body) _ (those own) (lost_in body) (itself (those own))) (lost_in rest))
+    (lost_then (block_effect own body) (effect rest) (plus (touched body) (those own)) (touched rest) (within-plus _ (touched body) _ (those own) (lost_in body) (same-within (those own))) (lost_in rest))
 
 option_made : (o : Option ℕ) (x : ℕ) → just_option o x ≡ true → any_in_option (nat_eq x) o ≡ true
 option_made None x h = h
 option_made (Some y) x h = h
 
 instruction_made : (i : Instruction) → IsWithin (instruction_effect i).made (mentions i)
-instruction_made (Declare x) = nothing _
+instruction_made (Declare x) = none-within _
 instruction_made (Assign x a) = λ y h. or_left (nat_eq y x) _ h
 instruction_made (LoadField x y f) = λ z h. or_left (nat_eq z x) _ h
 instruction_made (LoadLength x y) = λ z h. or_left (nat_eq z x) _ h
 instruction_made (LoadItem x y i) = λ z h. or_left (nat_eq z x) _ h
 instruction_made (TakeField x y f) = λ z h. or_left (nat_eq z x) _ h
-instruction_made (NewObject x class) = itself _
+instruction_made (NewObject x class) = same-within _
 instruction_made (NewArray x n) = λ z h. or_left (nat_eq z x) _ h
-instruction_made (StoreField y f a) = nothing _
-instruction_made (StoreItem y i e) = nothing _
+instruction_made (StoreField y f a) = none-within _
+instruction_made (StoreItem y i e) = none-within _
 instruction_made (Invoke into tie consumed y routine args) = λ z h. or_left (any_in_option (nat_eq z) into) _ (option_made into z h)
-instruction_made (Print e) = nothing _
+instruction_made (Print e) = none-within _
 
 closed_made : (own : List ℕ) (a : Code) → IsWithin (effect a).made (mentioned a) → IsWithin (block_effect own a).made (minus (mentioned a) (those own))
 closed_made own a f = within-minus (effect a).made (mentioned a) (those own) f
 
 -- what code makes live stands in it
 pub made_in : (a : Code) → IsWithin (effect a).made (mentioned a)
-made_in End = nothing _
-made_in (Give at w x) = within-right (just x) (just w) (just x) (itself (just x))
-made_in (Return at a) = nothing _
+made_in End = none-within _
+made_in (Give at w x) = within-right (just x) (just w) (just x) (same-within (just x))
+made_in (Return at a) = none-within _
 made_in (Do at i rest) = made_then (instruction_effect i) (effect rest) (mentions i) (mentioned rest) (instruction_made i) (made_in rest)
 made_in (If at e own1 a own2 b rest) =
     within-right _ (term_mentions e) (plus (minus (mentioned a) (those own1)) (plus (minus (mentioned b) (those own2)) (mentioned rest)))
@@ -161,7 +155,7 @@ made_in (If at e own1 a own2 b rest) =
     (made_in rest) x h))
 made_in (While at e own body rest) =
     within-right _ (term_mentions e) (plus (minus (mentioned body) (those own)) (mentioned rest))
-    (made_then (repeated (block_effect own body)) (effect rest) (minus (mentioned body) (those own)) (mentioned rest) (nothing _) (made_in rest))
+    (made_then (repeated (block_effect own body)) (effect rest) (minus (mentioned body) (those own)) (mentioned rest) (none-within _) (made_in rest))
 made_in (Par at own1 a own2 b rest) =
     λ x h. regroup (minus (mentioned a) (those own1)) (minus (mentioned b) (those own2)) (mentioned rest) x
     (made_then (both (block_effect own1 a) (block_effect own2 b)) (effect rest) (plus (minus (mentioned a) (those own1)) (minus (mentioned b) (those own2))) (mentioned rest)
@@ -199,7 +193,7 @@ one_side c own1 a own2 b G apart fine x = false_from_ne_true ((block_effect own1
         let stands = closed_made own2 b (made_in b) x parts.1 in
         let known : x < length c.vars = known_code c b G fine x (and_parts (mentioned b x) (not (those own2 x)) stands).0 in
         let there : below (length c.vars) x ≡ true = below-true (length c.vars) x known in
-        let touched_x = within-plus _ (touched a) _ (those own1) (lost_in a) (itself (those own1)) x parts.0 in
+        let touched_x = within-plus _ (touched a) _ (those own1) (lost_in a) (same-within (those own1)) x parts.0 in
         let left : touches c own1 a x ≡ true = and_from (below (length c.vars) x) (plus (touched a) (those own1) x) there touched_x in
         let right : uses c own2 b x ≡ true = and_from (below (length c.vars) x) (minus (mentioned b) (those own2) x) there stands in
         let met : meet (touches c own1 a) (uses c own2 b) x ≡ true = and_from (touches c own1 a x) (uses c own2 b x) left right in

@@ -8,7 +8,8 @@ use Rattle.perm_tree.specs.Vars.{Vars, none, plus, minus, meet, IsWithin}
 use Rattle.perm_rules.specs.Effects.{Effect, changed, no_effect, then, either, both}
 use Rattle.perm_rules.specs.Goes.{joined}
 use Rattle.perm_perm.proofs.OverAll.{implies, implies-at}
-use Rattle.perm_rules.proofs.Truth.{implies-from, beq-true, table2, table3, table4, table5, same_bool}
+use Rattle.perm_tree.proofs.ClassMaps.{same_bool}
+use Rattle.perm_rules.proofs.Truth.{implies-from, beq-true, table2, table3, table4, table5}
 
 -- the sets have no variable in common
 abbrev pub IsApart : Vars → Vars → Type 0

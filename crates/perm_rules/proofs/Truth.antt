@@ -33,9 +33,3 @@ table4 f h a b c d = table3 (f a) (each-at (λ a. each (λ b. each (λ c. each (
 
 pub table5 : (f : Bool → Bool → Bool → Bool → Bool → Bool) → each (λ a. each (λ b. each (λ c. each (λ d. each (f a b c d))))) ≡ true → (a b c d e : Bool) → f a b c d e ≡ true
 table5 f h a b c d e = table4 (f a) (each-at (λ a. each (λ b. each (λ c. each (λ d. each (f a b c d))))) h a) b c d e
-
-pub same_bool : (a b : Bool) → (a ≡ true → b ≡ true) → (b ≡ true → a ≡ true) → a ≡ b
-same_bool true true f g = refl
-same_bool true false f g = let e : false ≡ true = f refl in cc
-same_bool false true f g = g refl
-same_bool false false f g = refl

@@ -14,17 +14,6 @@ use Rattle.perm_step.specs.declared.straight.Holds.{Holds}
 use Rattle.perm_step.specs.Straight.{AnObject, ANumber, IsNumber, IsSum, IsStraightCode}
 
 -- ---------- lists ----------
--- what stands in a list with one element more
-pub pushed : {A : Type 0} (xs : List A) (a : A) (y : ℕ) (b : A) → slice_get (xs ++ a ∷ []) y ≡ Some b → (slice_get xs y ≡ Some b) ⊎ ((y ≡ length xs) × (a ≡ b))
-pushed [] a zero b e = inr (refl, cc)
-pushed [] a (suc y) b e = absurd (let r : ⊥ = cc e in r)
-pushed (x ∷ xs) a zero b e = inl e
-pushed (x ∷ xs) a (suc y) b e = later (pushed xs a y b e)
-  where
-    later : (slice_get xs y ≡ Some b) ⊎ ((y ≡ length xs) × (a ≡ b)) → (slice_get xs y ≡ Some b) ⊎ ((suc y ≡ suc (length xs)) × (a ≡ b))
-    later (inl e) = inl e
-    later (inr (p, q)) = inr (ap (λ n. suc n) p, q)
-
 pub set_same : (vs : List ℕ) (x v : ℕ) → x < length vs → slice_get (set vs x v) x ≡ Some v
 set_same [] x v within = absurd (omega arith)
 set_same (w ∷ vs) zero v within = refl

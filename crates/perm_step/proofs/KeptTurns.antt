@@ -17,7 +17,8 @@ use Rattle.perm_step.specs.declared.straight.Holds.{Holds}
 use Rattle.perm_step.specs.Straight.{AnObject, ANumber, IsNumber, IsSum, IsStraightCode}
 use Rattle.perm_step.specs.Rounds.{GoesOnBy, IsReady, IsThere, IsThereBy, Kept, KeepsPlace, effect_of}
 use Rattle.perm_step.specs.Workspace.{Workspace, locals, cells_of, own_of}
-use Rattle.perm_step.proofs.Kept.{pushed, set_same, set_other, straight_length, referred_small, number_gives, sum_gives}
+use Rattle.perm_tree.proofs.Pushes.{get_push}
+use Rattle.perm_step.proofs.Kept.{set_same, set_other, straight_length, referred_small, number_gives, sum_gives}
 
 -- the variables with which a branch goes on
 abbrev vars_in : Act ℕ NoMark → List ℕ
@@ -47,7 +48,7 @@ module _ (fields variables : ℕ) (few : fields ≤ 256) (u : UnitCode) where
       → Kept fields variables (holds ++ ANumber ∷ []) new
   number_kept holds m new x v k vars declared same limit = record {
     all = ap length vars ∙ length-set (locals m) x v ∙ k.all;
-    objects = λ y is. by y (pushed holds ANumber y AnObject is);
+    objects = λ y is. by y (get_push holds ANumber y AnObject is);
     room = omega (arith, k.room);
     small = omega (arith, k.small);
   }
@@ -61,7 +62,7 @@ module _ (fields variables : ℕ) (few : fields ≤ 256) (u : UnitCode) where
       → length m.words + size fields ≡ length new.words → length new.words ≤ m.limit → new.limit ≡ m.limit → Kept fields variables (holds ++ AnObject ∷ []) new
   object_kept holds m new x k vars declared within more room limit = record {
     all = ap length vars ∙ length-set (locals m) x (reference_word (length m.words) 0) ∙ k.all;
-    objects = λ y is. by y (pushed holds AnObject y AnObject is);
+    objects = λ y is. by y (get_push holds AnObject y AnObject is);
     room = omega arith;
     small = omega (arith, k.small);
   }

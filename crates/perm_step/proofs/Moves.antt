@@ -17,18 +17,7 @@ use Rattle.perm_meaning.specs.Values.{Eval, Gives, Traps}
 use Rattle.perm_meaning.specs.WordHeap.{Branch, Cells, Own, State, Task, NoMark, Ask, memory, no_marks, worded}
 use Rattle.perm_meaning.specs.Words.{words}
 use Rattle.perm_step.proofs.Cells.{clear_same}
-use Rattle.perm_step.proofs.Standing.{AreCalls, Ticks, branch_at, clear_all_same, frames_of, settles}
-
--- nothing is left where nothing is open round it
-ended-alone : (c : Code) → left_ended c [] ≡ record { code = c; within = [] }
-ended-alone End = refl
-ended-alone (Give at w x) = refl
-ended-alone (Return at a) = refl
-ended-alone (Do at i rest) = refl
-ended-alone (If at e own1 a own2 b rest) = refl
-ended-alone (While at e own body rest) = refl
-ended-alone (Par at own1 a own2 b rest) = refl
-ended-alone (Recover at x own hides body rest) = refl
+use Rattle.perm_step.proofs.Standing.{AreCalls, Ticks, branch_at, clear_all_same, ended-alone, frames_of, settles}
 
 module _ (u : UnitCode) (l : Own) (t : ℕ) (st : List Enclosing) (below : List (Frame ℕ)) (calls : AreCalls below) where
   -- the branch before the turn

@@ -9,6 +9,7 @@ use Rattle.perm_meaning.specs.WordHeap.{opening_word, input_word, root_word}
 use Rattle.perm_meaning.specs.Words.{number_word, reference_word}
 use Rattle.perm_step.specs.Rounds.{IsOpened}
 use Rattle.perm_step.specs.Workspace.{Workspace, locals}
+use Rattle.perm_meaning.proofs.OpeningShown.{past_input}
 use Rattle.perm_step.proofs.Cells.{more_words}
 
 -- ---------- the words of the opening ----------
@@ -16,11 +17,6 @@ opening_at : (input : List ℤ) (i : ℕ) → i < length input → opening_word 
 opening_at [] i inside = absurd (omega arith)
 opening_at (n ∷ ns) zero inside = refl
 opening_at (n ∷ ns) (suc i) inside = opening_at ns i (omega arith)
-
-opening_past : (input : List ℤ) (i : ℕ) → length input ≤ i → opening_word input i ≡ 0
-opening_past [] i past = refl
-opening_past (n ∷ ns) zero past = absurd (omega arith)
-opening_past (n ∷ ns) (suc i) past = opening_past ns i (omega arith)
 
 zeros : (n i : ℕ) → ◌≡◌ {A = ℕ} (get_or (replicate n 0) i 0) 0
 zeros n i = more_words [] n i
@@ -74,7 +70,7 @@ opened fields input old made written more rooted new base root fresh making writ
     by i (inl inside) = ap (λ (ws : List ℕ). get_or ws i 0) new_words ∙ more_words written.words (size fields) i ∙ within i inside ∙ sym (opening_at input i inside)
     by i (inr behind) =
         ap (λ (ws : List ℕ). get_or ws i 0) new_words ∙ more_words written.words (size fields) i ∙ past i behind ∙ ap (λ (ws : List ℕ). get_or ws i 0) made_words ∙ zeros (size (length input)) i
-        ∙ sym (opening_past input i behind)
+        ∙ sym (past_input input i behind)
 
     others : new ≡ record old { vars = new.vars; words = new.words }
     others =

@@ -65,6 +65,17 @@ pub clear_all_same : (vs ys : List ℕ) → clear_all words vs ys ≡ vs
 clear_all_same vs [] = refl
 clear_all_same vs (y ∷ ys) = clear_all_same (clear words vs y) ys ∙ clear_same vs y
 
+-- nothing ends where nothing is open round the code
+pub ended-alone : (c : Code) → left_ended c [] ≡ record { code = c; within = [] }
+ended-alone End = refl
+ended-alone (Give at w x) = refl
+ended-alone (Return at a) = refl
+ended-alone (Do at i rest) = refl
+ended-alone (If at e own1 a own2 b rest) = refl
+ended-alone (While at e own body rest) = refl
+ended-alone (Par at own1 a own2 b rest) = refl
+ended-alone (Recover at x own hides body rest) = refl
+
 -- a branch with this code, and this open round it, stands where the code leads
 pub settles : (u : UnitCode) (b : Branch) (vs : List ℕ) (c : Code) (st : List Enclosing) (below : List (Frame ℕ)) → AreCalls below
     → settled (worded Copies u) b vs c (frames_of st ++ below) ≡ record b { own = record b.own { vars = vs }; code = (left_ended c st).code; stack = frames_of (left_ended c st).within ++ below }

@@ -28,19 +28,6 @@ pos-of_64 n below = (n, sym (to_z_pos w64 n below), omega arith)
 pub sum-of_64 : (a b : ℤ) → IsOf64Bits (int_wrapping_add w64 a b)
 sum-of_64 a b = ((cast_unsigned w64 a + cast_unsigned w64 b) % 2 ^ 64, refl, omega arith)
 
--- ---------- names ----------
-same_side-refl : (s : Side) → same_side s s ≡ true
-same_side-refl OnLeft = refl
-same_side-refl OnRight = refl
-
-same_path-refl : (p : Path) → same_path p p ≡ true
-same_path-refl [] = refl
-same_path-refl (a ∷ p) = rw (eq-eqb a.0 a.0 refl, same_side-refl a.1) (same_path-refl p)
-
--- a name is itself
-pub same_name-refl : (a : Name) → same_name a a ≡ true
-same_name-refl a = rw (eq-eqb a.count a.count refl) (same_path-refl a.by)
-
 -- ---------- objects ----------
 -- a value is a number of 64 bits
 abbrev pub IsLongValue : Value Name → Type 0

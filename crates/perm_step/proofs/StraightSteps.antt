@@ -11,22 +11,16 @@ use Rattle.perm_tree.specs.declared.bodies.Step.{Step}
 use Rattle.perm_tree.specs.BodyTerms.{argument_of, instruction_of}
 use Rattle.perm_tree.specs.Code as code
 use Rattle.perm_tree.specs.Code.{Code, End, Give, Return, Do, If, While, Par, Recover, Routine, Tie, UnitCode}
-use Rattle.perm_tree.specs.Links.{Spot, spot_of, AreBodiesOf, StandsAt, IsSimple, IsDo, IsReturn, IsLinkedBy}
+use Rattle.perm_tree.specs.Links.{Spot, Standing, spot_of, AreBodiesOf, StandsAt, IsSimple, IsDo, IsReturn, IsLinkedBy}
 use Rattle.perm_step.specs.declared.straight.Holds.{Holds}
 use Rattle.perm_step.specs.Deciding.{IsNumberArgument, IsWhether, MayCome, Same}
 use Rattle.perm_step.specs.Straight.{IsStraightCode, Other}
 use Rattle.perm_step.proofs.Deciding.{whether-as}
+use Rattle.perm_step.proofs.Standing.{ended-alone}
 
 -- nothing is left where nothing is open round it
 pub left-alone : (m : ℕ) (c : Code) → spot_of m c [] ≡ record { routine = m; code = c; within = [] }
-left-alone m End = refl
-left-alone m (Give at w x) = refl
-left-alone m (Return at a) = refl
-left-alone m (Do at i rest) = refl
-left-alone m (If at e own1 a own2 b rest) = refl
-left-alone m (While at e own body rest) = refl
-left-alone m (Par at own1 a own2 b rest) = refl
-left-alone m (Recover at x own hides body rest) = refl
+left-alone m c = ap (λ (s : Standing). let q : Spot = record { routine = m; code = s.code; within = s.within } in q) (ended-alone c)
 
 module _ (stands : ℕ → Spot → Type 0) (b : Bodies) (u : UnitCode) (here : Spot) (at : Span) (next : ℕ) where
   -- a simple statement stands at the spot of its step

@@ -1,5 +1,5 @@
 -- One turn of the interpreter is one event of the word machine at its leftmost node.
-use Rattle.std.proofs.Common.{◌≡◌, ℕ, suc, List, [], Option, Some, refl, sym, ap, ◌∙◌, subst}
+use Rattle.std.proofs.Common.{◌≡◌, ℕ, suc, List, [], ◌++◌, Option, Some, refl, sym, ap, ◌∙◌, subst}
 use Rattle.perm_tree.specs.declared.ast.Span.{Span}
 use Rattle.perm_tree.specs.declared.errors.TrapKind.{TrapKind}
 use Rattle.perm_tree.specs.Code.{Argument, Code, End, Give, Return, Do, If, While, Par, Recover, Instruction, UnitCode}
@@ -14,6 +14,7 @@ use Rattle.perm_meaning.specs.Values.{Eval, Gives}
 use Rattle.perm_meaning.specs.WordHeap as word_heap
 use Rattle.perm_meaning.specs.WordHeap.{NoMark, Ask, State, worded, memory, find, after}
 use Rattle.perm_meaning.specs.Words.{words as on_words}
+use Rattle.perm_tree.specs.Links.{Standing}
 use Rattle.perm_meaning.proofs.Leads.{stay, one}
 use Rattle.perm_step.specs.declared.machine.Halt.TheVariants.{Ended}
 use Rattle.perm_step.specs.declared.machine.Shortage.TheVariants as shortages
@@ -21,17 +22,13 @@ use Rattle.perm_step.specs.declared.machine.Stop.{Stop}
 use Rattle.perm_step.specs.declared.machine.Stop.TheVariants as stops
 use Rattle.perm_step.specs.Rounds.{GoesOnBy, StopsBy, effect_of, halt_of, ComesTo, HaltsFrom}
 use Rattle.perm_step.specs.Workspace.{Workspace, locals, cells_of, own_of, branch_of, state_of}
+use Rattle.perm_step.proofs.Standing.{ended-alone, frames_of, settles}
 
 -- no block ends where nothing stands below the code
 settled-nil : (u : UnitCode) (b : word_heap.Branch) (vs : List ℕ) (c : Code) → settled (worded Copies u) b vs c [] ≡ record b { own = record b.own { vars = vs }; code = c; stack = [] }
-settled-nil u b vs End = refl
-settled-nil u b vs (Give at w x) = refl
-settled-nil u b vs (Return at a) = refl
-settled-nil u b vs (Do at i rest) = refl
-settled-nil u b vs (If at e own1 a own2 b2 rest) = refl
-settled-nil u b vs (While at e own body rest) = refl
-settled-nil u b vs (Par at own1 a own2 b2 rest) = refl
-settled-nil u b vs (Recover at x own hides body rest) = refl
+settled-nil u b vs c =
+    settles u b vs c [] [] tt
+    ∙ ap (λ (s : Standing). let x : word_heap.Branch = record b { own = record b.own { vars = vs }; code = s.code; stack = frames_of s.within ++ [] } in x) (ended-alone c)
 
 module _ (u : UnitCode) where
   abbrev on : UnitCode → ℕ → State → Option State

@@ -123,10 +123,8 @@ good-run (Some d) e = (d, refl, chosen (is_good_run d) e)
 -- names are distinct, their numbers are within the limits, class names are known, and Main has its Run
 pub record IsAccepted (p : Listing) : Type 0 where
   pub classes : AreDistinct (class_names p)
-  pub few_classes : length (class_names p) ≤ 1000
   pub members : (k : ℕ) (c : ClassDecl) → slice_get p.classes k ≡ Some c → AreDistinct (field_names c ++ method_names c)
   pub few_fields : (k : ℕ) (c : ClassDecl) → slice_get p.classes k ≡ Some c → length (field_names c) ≤ 256
-  pub few_methods : (k : ℕ) (c : ClassDecl) → slice_get p.classes k ≡ Some c → length (method_names c) ≤ 256
   pub variables : (n : ℕ) (t : MethodTable) → slice_get (tables_of p) n ≡ Some t → AreDistinct (var_names t)
   pub few_variables : (n : ℕ) (t : MethodTable) → slice_get (tables_of p) n ≡ Some t → length (var_names t) ≤ 256
   pub known : (n : ℕ) (i : Ident) → slice_get (class_mentions p) n ≡ Some i → class_place p i.name < length p.classes
@@ -135,10 +133,8 @@ pub record IsAccepted (p : Listing) : Type 0 where
 pub names_refusal-accepted : (p : Listing) → names_refusal p ≡ None → IsAccepted p
 names_refusal-accepted p e = record {
   classes = doubles-distinct (class_names p) (nil-left (doubles (class_names p)) behind1 all);
-  few_classes = passing-few Classes (class_names p) (nil-left (passing Classes (class_names p)) behind2 rest1);
   members = λ k c here. doubles-distinct (field_names c ++ method_names c) (nil-left (doubles (field_names c ++ method_names c)) (limits c) (class k c here));
   few_fields = λ k c here. passing-few Fields (field_names c) (nil-left (passing Fields (field_names c)) (passing Methods (method_names c)) (class_limits k c here));
-  few_methods = λ k c here. passing-few Methods (method_names c) (nil-right (passing Fields (field_names c)) (passing Methods (method_names c)) (class_limits k c here));
   variables = λ n t here. doubles-distinct (var_names t) (nil-left (doubles (var_names t)) (passing Variables (var_names t)) (method n t here));
   few_variables = λ n t here. passing-few Variables (var_names t) (nil-right (doubles (var_names t)) (passing Variables (var_names t)) (method n t here));
   known = λ n i here. unknowns-known p (class_mentions p) n i (nil-right (flat_map in_method (tables_of p)) (unknowns (class_names p) (class_mentions p)) rest3) here;

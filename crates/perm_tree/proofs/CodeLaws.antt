@@ -36,14 +36,6 @@ pub term_at-is : (u : Tables) (vars : List VarInfo) (at : ℕ) (e : Expr) → Is
 term_at-is u vars at e placed here = entries_of-at (term_of vars) u.program.exprs at e NullLit here (term_of-reads vars at e (placed.exprs at e here))
 
 -- ---------- blocks ----------
--- the code of two lists of statements, one after the other
-pub sequence-append : (codes : List (Code → Code)) (is js : List ℕ) (end : Code) → sequence codes (is ++ js) end ≡ sequence codes is (sequence codes js end)
-sequence-append codes [] js end = refl
-sequence-append codes (i ∷ is) js end = ap (get_or codes i (λ c. c)) (sequence-append codes is js end)
-
-pub block_code-append : (k : Setting) (is js : List ℕ) (end : Code) → block_code k (is ++ js) end ≡ block_code k is (block_code k js end)
-block_code-append k is js end = sequence-append (codes_of k) is js end
-
 -- a block begins with the code of its first statement
 pub block_code-cons : (k : Setting) (i : ℕ) (is : List ℕ) (end : Code) → block_code k (i ∷ is) end ≡ stmt_code k i (block_code k is end)
 block_code-cons k i is end = refl

@@ -2,12 +2,18 @@
 use Rattle.std.proofs.Common.{◌≡◌, ℕ, Bool, true, false, List, [], ◌∷◌, Option, Some, None, refl, ◌⊎◌, inl, inr}
 use Rattle.std.specs.Prelude.{◌&&◌, not, nat_eq}
 use Rattle.std.specs.List.{list_any}
-use Rattle.std.proofs.lemmas.Bool.{or_cases, or_left, or_right}
+use Rattle.std.proofs.lemmas.Bool.{and_parts, or_cases, or_left, or_right}
 use Rattle.perm_tree.specs.Code.{Argument, Expression, Consumed, Instruction, Declare, Assign, LoadField, LoadLength, LoadItem, TakeField, NewObject, NewArray, StoreField, StoreItem, Invoke, Print, Code, End, Give, Return, Do, If, While, Par, Recover}
 use Rattle.perm_tree.specs.Mentions.{any_in_argument, any_in_option, term_mentions, argument_mentions, mentions, argument_consumes, arguments_consume, just_if, just_option, consumes, assigns, mentioned, written, block_mentions, block_writes}
 use Rattle.perm_tree.specs.Vars.{Vars, none, just, those, plus, minus, IsWithin}
 
 -- ---------- sets ----------
+pub same-within : (G : Vars) → IsWithin G G
+same-within G x e = e
+
+pub minus-within : (G H : Vars) → IsWithin (minus G H) G
+minus-within G H x e = (and_parts (G x) (not (H x)) e).0
+
 pub within-left : (G H K : Vars) → IsWithin G H → IsWithin G (plus H K)
 within-left G H K all x e = or_left (H x) (K x) (all x e)
 
@@ -70,9 +76,6 @@ consumes-within (Invoke into tie consumed y routine args) =
     (plus (just y) all)
     (within-plus (just_if consumed y) (just y) (arguments_consume args) all (just_if-within consumed y) (arguments-within args))
 consumes-within (Print e) = none-within (mentions (Print e))
-
-same-within : (G : Vars) → IsWithin G G
-same-within G x e = e
 
 assigns-within : (i : Instruction) → IsWithin (assigns i) (mentions i)
 assigns-within (Declare x) = none-within (mentions (Declare x))

@@ -1,12 +1,11 @@
 -- Where a value leads that comes from one variable into another, into a field, or out of a field.
 use Rattle.std.proofs.Common.{◌≡◌, Bool, true, false, Some, refl, sym, ap, subst, ◌∙◌, inl, inr}
 use Rattle.std.specs.Prelude.{◌⊎◌, ◌&&◌, ◌||◌, cond}
-use Rattle.std.proofs.lemmas.Bool.{or_cases, or_left, or_right}
+use Rattle.std.proofs.lemmas.Bool.{or_cases, or_left, or_right, and_parts}
 use Rattle.perm_tree.specs.declared.ast.Perm.{Perm}
 use Rattle.perm_tree.specs.declared.ast.Perm.TheVariants.{Isolated, Immutable, Readable, Writable}
 use Rattle.perm_perm.specs.Adaptation.{adapted}
 use Rattle.perm_perm.specs.Order.{is_at_most}
-use Rattle.perm_meaning.proofs.SameName.{both}
 use Rattle.perm_meaning.proofs.Leads.{some_inj, none_some}
 use Rattle.perm_core.specs.Regions.{Zone, Base, Under, Region, Frozen, OwnOf, same_zone, same_region, is_frozen, may_read, is_visible, var_may_lead, field_may_lead}
 use Rattle.perm_core.specs.NextPicture.{goal}
@@ -80,7 +79,7 @@ loaded Immutable Isolated s q e entry home to r z a o d t k l =
     ice : (b : Bool) → (b ≡ true) ⊎ ((is_frozen home && is_frozen r) ≡ true) → is_frozen (cond b Frozen r) ≡ true
     ice true g = refl
     ice false (inl g) = absurd (cc)
-    ice false (inr g) = (both (is_frozen home) (is_frozen r) g).1
+    ice false (inr g) = (and_parts (is_frozen home) (is_frozen r) g).1
 loaded Immutable Immutable s q e entry home to r z a o d t k l = weaker Immutable q to z r (ap (λ s. is_at_most s q) (some_inj a) ∙ o) l
 loaded Immutable Readable s q e entry home to r z a o d t k l =
     weaker Immutable q to z r (ap (λ s. is_at_most s q) (some_inj a) ∙ o) (ap (λ x. is_frozen x) (from-frozen r (subst (λ x. Sees x r) (frozen-true home k) (sees home r l))))

@@ -1,6 +1,7 @@
 -- A change of labels at one node leaves all other nodes of the tree as good as they were.
 use Rattle.std.proofs.Common.{◌≡◌, ℕ, suc, true, Option, Some, None, List, [], ◌∷◌, refl}
 use Rattle.std.specs.Prelude.{◌&&◌, ◌||◌}
+use Rattle.std.proofs.lemmas.Bool.{and_parts}
 use Rattle.perm_tree.specs.Code.{UnitCode, Shares, Raises, Lends}
 use Rattle.perm_rules.specs.declared.ParMode.{ParMode}
 use Rattle.perm_rules.specs.declared.ParMode.TheVariants.{Symmetric, LeftAlone, RightAlone}
@@ -8,7 +9,7 @@ use Rattle.perm_meaning.specs.Objects.{Objects}
 use Rattle.perm_meaning.specs.Names.{Name}
 use Rattle.perm_meaning.specs.Machine.{Frame, OpenBlock, OpenRecover, OpenCall, Blocks, Close, Leaf, Fork, Way, Here, GoL, GoR}
 use Rattle.perm_meaning.specs.NamedHeap.{Held, Branch, Task}
-use Rattle.perm_meaning.proofs.SameName.{both, together}
+use Rattle.perm_meaning.proofs.SameName.{together}
 use Rattle.perm_core.specs.Regions.{Zone, Base, Under, Region, OwnOf, OfVariable, Labels, calls, zones, top_zone, left_zone, right_zone}
 use Rattle.perm_core.specs.Picture.{context_of, mode_in, variables_fit, stack_fits, has_end, branch_fits, tree_fits}
 use Rattle.perm_core.proofs.KeepsPicture.Relabellings.{Good}
@@ -50,7 +51,7 @@ module _ (u : UnitCode) (labels : Labels) (h : Objects Name) (ρ : Region → Re
       inner : variables_fit u labels h (top_zone w z b.stack) w (calls b.stack) 0 (context_of u b.own.routine).vars b.own.vars && stack_fits u labels h w z b.own.routine b.stack ≡ true
           → variables_fit u after h (top_zone w z b.stack) w (calls b.stack) 0 (context_of u b.own.routine).vars b.own.vars && stack_fits u after h w z b.own.routine b.stack ≡ true
       inner q =
-          let d = both (variables_fit u labels h (top_zone w z b.stack) w (calls b.stack) 0 (context_of u b.own.routine).vars b.own.vars) (stack_fits u labels h w z b.own.routine b.stack) q in
+          let d = and_parts (variables_fit u labels h (top_zone w z b.stack) w (calls b.stack) 0 (context_of u b.own.routine).vars b.own.vars) (stack_fits u labels h w z b.own.routine b.stack) q in
           together (variables_fit u after h (top_zone w z b.stack) w (calls b.stack) 0 (context_of u b.own.routine).vars b.own.vars) (stack_fits u after h w z b.own.routine b.stack)
           (variables-carry u labels h ρ good w (calls b.stack) (top_zone w z b.stack) (context_of u b.own.routine).vars b.own.vars (λ x v has. vars (calls b.stack) x) (fixed (top_zone w z b.stack) (top-keeps w z b.stack start base)) d.0)
           (stack-carry u labels h ρ good w z b.own.routine b.stack (stack-alone u labels h ρ good w z b.stack vars (fixed z start) (λ i. fixed (Base w i) (base i))) d.1)
@@ -71,8 +72,8 @@ module _ (u : UnitCode) (labels : Labels) (h : Objects Name) (ρ : Region → Re
       let right = tree_fits u labels h (λ w. at (GoR w)) (right_zone m (at (GoR Here)) top) r in
       let left' = tree_fits u after h (λ w. at (GoL w)) (left_zone m (at (GoL Here)) top) l in
       let right' = tree_fits u after h (λ w. at (GoR w)) (right_zone m (at (GoR Here)) top) r in
-      let x = both (branch_fits u labels h (at Here) z b) (left && right) e in
-      let y = both left right x.1 in
+      let x = and_parts (branch_fits u labels h (at Here) z b) (left && right) e in
+      let y = and_parts left right x.1 in
       together (branch_fits u after h (at Here) z b) (left' && right') (branch-carry (at Here) z b (alone.vars Here) start (alone.base Here) x.0)
       (together left' right'
       (tree-carry l (λ w. at (GoL w)) (left_zone m (at (GoL Here)) top) (record { vars = λ w. alone.vars (GoL w); base = λ w. alone.base (GoL w); under = λ w. alone.under (GoL w) }) (left-keeps m (at (GoL Here)) top keeps (alone.base (GoL Here)) (alone.under (GoL Here))) y.0)
@@ -90,10 +91,10 @@ module _ (u : UnitCode) (labels : Labels) (h : Objects Name) (ρ : Region → Re
       let right = tree_fits u labels h (λ w. at (GoR w)) (right_zone m (at (GoR Here)) top) r in
       let left' = tree_fits u after h (λ w. at (GoL w)) (left_zone m (at (GoL Here)) top) l' in
       let right' = tree_fits u after h (λ w. at (GoR w)) (right_zone m (at (GoR Here)) top) r in
-      let x = both (branch_fits u labels h (at Here) z b) (left && right) e in
+      let x = and_parts (branch_fits u labels h (at Here) z b) (left && right) e in
       together (branch_fits u after h (at Here) z b) (left' && right') (branch-carry (at Here) z b vars start base x.0)
       (together left' right' new
-      (tree-carry r (λ w. at (GoR w)) (right_zone m (at (GoR Here)) top) alone (right-keeps m (at (GoR Here)) top (top-keeps (at Here) z b.stack start base) (alone.base Here) (alone.under Here)) (both left right x.1).1))
+      (tree-carry r (λ w. at (GoR w)) (right_zone m (at (GoR Here)) top) alone (right-keeps m (at (GoR Here)) top (top-keeps (at Here) z b.stack start base) (alone.base Here) (alone.under Here)) (and_parts left right x.1).1))
 
   -- and on the right
   pub lift-right : (b : Branch) (p : Blocks) (l r r' : Task) (at : Way → Way) (z : Zone) → ((i x : ℕ) → ρ (OfVariable (at Here) i x) ≡ OfVariable (at Here) i x) → ((i : ℕ) → P (Base (at Here) i)) → P z
@@ -107,8 +108,8 @@ module _ (u : UnitCode) (labels : Labels) (h : Objects Name) (ρ : Region → Re
       let right = tree_fits u labels h (λ w. at (GoR w)) (right_zone m (at (GoR Here)) top) r in
       let left' = tree_fits u after h (λ w. at (GoL w)) (left_zone m (at (GoL Here)) top) l in
       let right' = tree_fits u after h (λ w. at (GoR w)) (right_zone m (at (GoR Here)) top) r' in
-      let x = both (branch_fits u labels h (at Here) z b) (left && right) e in
+      let x = and_parts (branch_fits u labels h (at Here) z b) (left && right) e in
       together (branch_fits u after h (at Here) z b) (left' && right') (branch-carry (at Here) z b vars start base x.0)
       (together left' right'
-      (tree-carry l (λ w. at (GoL w)) (left_zone m (at (GoL Here)) top) alone (left-keeps m (at (GoL Here)) top (top-keeps (at Here) z b.stack start base) (alone.base Here) (alone.under Here)) (both left right x.1).0)
+      (tree-carry l (λ w. at (GoL w)) (left_zone m (at (GoL Here)) top) alone (left-keeps m (at (GoL Here)) top (top-keeps (at Here) z b.stack start base) (alone.base Here) (alone.under Here)) (and_parts left right x.1).0)
       new)

@@ -2,7 +2,7 @@
 use Rattle.std.proofs.Common.{◌≡◌, ℕ, zero, suc, ◌<◌, ◌≤◌, Bool, true, false, Some, List, [], ◌∷◌, ◌++◌, length, refl, sym, ap, subst, ◌∙◌, inl, inr, arith}
 use Rattle.std.specs.Prelude.{◌⊎◌, ◌&&◌, ◌||◌, not, nat_eq, cond, slice_get, slice_set}
 use Rattle.std.specs.List.{list_any}
-use Rattle.std.proofs.lemmas.Bool.{or_cases, or_left, or_right}
+use Rattle.std.proofs.lemmas.Bool.{or_cases, or_left, or_right, and_parts}
 use Rattle.std.proofs.lemmas.Bool.Decides.{nat_tests}
 use Rattle.std.proofs.Math.Bool.{and-false}
 use Rattle.perm_tree.specs.declared.ast.Perm.{Perm}
@@ -19,7 +19,7 @@ use Rattle.perm_meaning.specs.Names.{Name}
 use Rattle.perm_meaning.specs.Objects.{Objects}
 use Rattle.perm_meaning.specs.Machine.{Frame, OpenBlock, OpenRecover, OpenCall, Way}
 use Rattle.perm_meaning.specs.NamedHeap.{Held}
-use Rattle.perm_meaning.proofs.SameName.{both, together, eq_true, eq_itself}
+use Rattle.perm_meaning.proofs.SameName.{together, eq_true, eq_itself}
 use Rattle.perm_meaning.proofs.Leads.{some_inj, none_some}
 use Rattle.perm_core.specs.Regions.{Zone, Base, Region, Frozen, OwnOf, OfVariable, Loose, Labels, same_way, is_frozen, may_read, var_may_lead, begins_zone, calls, zones, top_zone}
 use Rattle.perm_core.specs.Picture.{hidden_above, has_value, valued, only_valued, none_valued, stack_hidden}
@@ -125,9 +125,9 @@ module _ (u : UnitCode) (labels : Labels) (h : Objects Name) (ρ : Region → Re
       let fewer : suc (zones st) ≤ j = less in
       let a : Bool = only_valued hides saved in
       let b : Bool = none_valued (hidden_above below st) saved in
-      let x = both (a && b) _ hid in
-      let only : a ≡ true = (both a b x.0).0 in
-      let rest-hid = (both _ (stack_hidden below rest st) x.1).1 in (
+      let x = and_parts (a && b) _ hid in
+      let only : a ≡ true = (and_parts a b x.0).0 in
+      let rest-hid = (and_parts _ (stack_hidden below rest st) x.1).1 in (
         λ i v has. vars (calls st) i (inr (refl, any-left i hides (hidden_above below st) (only-hidden hides saved i v only has))),
         own (top_zone w z st) (top-low w z st j low (omega (arith, fewer))),
         stack-stays w z below rest st j (λ i x o. vars i x (more i x o)) own low (omega (arith, fewer)) rest-hid,
@@ -141,7 +141,7 @@ module _ (u : UnitCode) (labels : Labels) (h : Objects Name) (ρ : Region → Re
         λ i v has. vars (calls st) i (inl (omega arith)),
         own (top_zone w z st) (top-low w z st j low fewer),
         lent-stays tie less,
-        stack-stays w z below rest st j (λ i x o. vars i x (inl (lower i x o))) own low fewer (both _ (stack_hidden below rest st) hid).1,
+        stack-stays w z below rest st j (λ i x o. vars i x (inl (lower i x o))) own low fewer (and_parts _ (stack_hidden below rest st) hid).1,
       )
     where
       fewer-zones : (tie : Tie) → cond (begins_zone tie) (suc (zones st)) (zones st) ≤ j → zones st ≤ j

@@ -1,6 +1,7 @@
 -- A change of labels that every link survives leaves variables as good as they were, where it leaves alone what they stand in.
 use Rattle.std.proofs.Common.{◌≡◌, ℕ, zero, suc, ◌+◌, Bool, true, false, Option, Some, None, List, [], ◌∷◌, length, refl, sym, ap, subst, ◌∙◌, arith}
 use Rattle.std.specs.Prelude.{◌&&◌, slice_get}
+use Rattle.std.proofs.lemmas.Bool.{and_parts}
 use Rattle.perm_tree.specs.declared.ast.Ty.{Ty}
 use Rattle.perm_tree.specs.Code.{UnitCode, Tie, Shares, Raises, Lends}
 use Rattle.perm_rules.specs.Parts.{type_of}
@@ -9,7 +10,7 @@ use Rattle.perm_meaning.specs.Names.{Name}
 use Rattle.perm_meaning.specs.Objects.{Objects}
 use Rattle.perm_meaning.specs.Machine.{Frame, OpenBlock, OpenRecover, OpenCall, Way}
 use Rattle.perm_meaning.specs.NamedHeap.{Held}
-use Rattle.perm_meaning.proofs.SameName.{both, together}
+use Rattle.perm_meaning.proofs.SameName.{together}
 use Rattle.perm_meaning.proofs.Leads.{some_inj}
 use Rattle.perm_core.specs.Regions.{Zone, Base, Region, OwnOf, OfVariable, Labels, same_region, var_may_lead, calls, zones, top_zone}
 use Rattle.perm_core.specs.Picture.{context_of, value_fits, variable_fits, variables_fit, lent_right, lent_fits, result_fits, stack_fits}
@@ -27,7 +28,7 @@ module _ (u : UnitCode) (labels : Labels) (h : Objects Name) (z : Zone) (w : Way
   same-lengths x [] [] e = refl
   same-lengths x [] (v ∷ vs) e = absurd (cc)
   same-lengths x (t ∷ ts) [] e = absurd (cc)
-  same-lengths x (t ∷ ts) (v ∷ vs) e = ap (λ n. suc n) (same-lengths (suc x) ts vs (both (variable_fits u labels h z w k x t v) (variables_fit u labels h z w k (suc x) ts vs) e).1)
+  same-lengths x (t ∷ ts) (v ∷ vs) e = ap (λ n. suc n) (same-lengths (suc x) ts vs (and_parts (variable_fits u labels h z w k x t v) (variables_fit u labels h z w k (suc x) ts vs) e).1)
 
   pub to-all : (ts : List Ty) (vs : List Held) → variables_fit u labels h z w k 0 ts vs ≡ true → AllFit u labels h z w k ts vs
   to-all ts vs e = record { lengths = same-lengths 0 ts vs e; each = λ x t v is has. one x t v is (holds u labels h w z k ts vs x v e has) }
@@ -95,10 +96,10 @@ module _ (u : UnitCode) (labels : Labels) (h : Objects Name) (ρ : Region → Re
   lent-carry w Shares j t (Some v) stay e = absurd (cc)
   lent-carry w Raises j t (Some v) stay e = absurd (cc)
   lent-carry w Lends j None (Some v) stay e = absurd (cc)
-  lent-carry w Lends j (Some t) (Some None) stay e = let x = both (lent_right u labels h Lends (Some t) (Some None)) false e in absurd (let no : false ≡ true = x.1 in cc)
+  lent-carry w Lends j (Some t) (Some None) stay e = let x = and_parts (lent_right u labels h Lends (Some t) (Some None)) false e in absurd (let no : false ≡ true = x.1 in cc)
   lent-carry w Lends j (Some t) (Some (Some v)) stay e =
       let before : Bool = value_fits h (λ p n. same_region (labels n) (OwnOf (Base w (suc j)))) t v in
-      let x = both (lent_right u labels h Lends (Some t) (Some (Some v))) before e in
+      let x = and_parts (lent_right u labels h Lends (Some t) (Some (Some v))) before e in
       together (lent_right u after h Lends (Some t) (Some (Some v))) (value_fits h (λ p n. same_region (after n) (OwnOf (Base w (suc j)))) t v) x.0
       (value-carry h (λ p n. same_region (labels n) (OwnOf (Base w (suc j)))) (λ p n. same_region (after n) (OwnOf (Base w (suc j)))) t v (λ p s n is q. is-same (ap ρ (region-true (labels n) (OwnOf (Base w (suc j))) q) ∙ stay)) x.1)
 
@@ -107,7 +108,7 @@ module _ (u : UnitCode) (labels : Labels) (h : Objects Name) (ρ : Region → Re
   stack-carry w z m (OpenBlock own rest ∷ st) stay e = stack-carry w z m st stay e
   stack-carry w z m (OpenRecover own hides saved rest ∷ st) stay e =
       let ts = (context_of u m).vars in
-      let x = both (variables_fit u labels h (top_zone w z st) w (calls st) 0 ts saved) (stack_fits u labels h w z m st) e in
+      let x = and_parts (variables_fit u labels h (top_zone w z st) w (calls st) 0 ts saved) (stack_fits u labels h w z m st) e in
       together (variables_fit u after h (top_zone w z st) w (calls st) 0 ts saved) (stack_fits u after h w z m st)
       (variables-carry w (calls st) (top_zone w z st) ts saved stay.0 stay.1 x.0) (stack-carry w z m st stay.2 x.1)
   stack-carry w z m (OpenCall tie into y saved lent caller rest ∷ st) stay e =
@@ -116,9 +117,9 @@ module _ (u : UnitCode) (labels : Labels) (h : Objects Name) (ρ : Region → Re
       let lends = lent_right u labels h tie t lent && lent_fits u labels h (Base w (suc (zones st))) t lent in
       let lends' = lent_right u after h tie t lent && lent_fits u after h (Base w (suc (zones st))) t lent in
       let result = result_fits u labels h tie (context_of u m).result into caller in
-      let x = both (variables_fit u labels h (top_zone w z st) w (calls st) 0 ts saved) (lends && (result && stack_fits u labels h w z caller st)) e in
-      let y = both lends (result && stack_fits u labels h w z caller st) x.1 in
-      let r = both result (stack_fits u labels h w z caller st) y.1 in
+      let x = and_parts (variables_fit u labels h (top_zone w z st) w (calls st) 0 ts saved) (lends && (result && stack_fits u labels h w z caller st)) e in
+      let y = and_parts lends (result && stack_fits u labels h w z caller st) x.1 in
+      let r = and_parts result (stack_fits u labels h w z caller st) y.1 in
       together (variables_fit u after h (top_zone w z st) w (calls st) 0 ts saved) (lends' && (result_fits u after h tie (context_of u m).result into caller && stack_fits u after h w z caller st))
       (variables-carry w (calls st) (top_zone w z st) ts saved stay.0 stay.1 x.0)
       (together lends' (result_fits u after h tie (context_of u m).result into caller && stack_fits u after h w z caller st) (lent-carry w tie (zones st) t lent stay.2 y.0)

@@ -1,7 +1,7 @@
 -- A recover block gives its value: what is allowed of the `give` lets the value go where it is taken, and then the branch and the objects fit.
 use Rattle.std.proofs.Common.{◌≡◌, ℕ, suc, ◌<◌, Bool, true, false, Some, List, [], ◌∷◌, ◌++◌, length, refl, sym, ap, subst, ◌∙◌}
 use Rattle.std.specs.Prelude.{◌&&◌, ◌||◌, not, nat_eq, cond, slice_get}
-use Rattle.std.proofs.lemmas.Bool.{or_left, or_right}
+use Rattle.std.proofs.lemmas.Bool.{or_left, or_right, and_parts}
 use Rattle.perm_tree.specs.declared.ast.Perm.{Perm}
 use Rattle.perm_tree.specs.declared.ast.Shape.{Shape}
 use Rattle.perm_tree.specs.declared.ast.Span.{Span}
@@ -27,7 +27,7 @@ use Rattle.perm_meaning.specs.Expressions.{tagged, assign, clear, clear_all}
 use Rattle.perm_meaning.specs.Custody.{from_either}
 use Rattle.perm_meaning.specs.Machine.{Frame, OpenRecover, Way, Here, On, done}
 use Rattle.perm_meaning.specs.NamedHeap.{Held, Own, Branch}
-use Rattle.perm_meaning.proofs.SameName.{both, eq_itself}
+use Rattle.perm_meaning.proofs.SameName.{eq_itself}
 use Rattle.perm_core.specs.Core.{core}
 use Rattle.perm_core.specs.Regions.{Zone, Base, Region, OwnOf, OfVariable, Labels, calls, zones, top_zone}
 use Rattle.perm_core.specs.Picture.{context_of, variables_fit, stack_fits, tree_fits, object_fits, valued, hidden_above, context_above, grown, recover_right, code_right, stack_right, only_valued, none_valued, stack_hidden}
@@ -127,22 +127,22 @@ module _ (u : UnitCode) (labels : Labels) (h : Objects Name) (at : Way → Way) 
     tied : hides_tied c (minus U (those own)) hides ≡ true
     tied =
         let next : Bool = stack_right u b.own.routine rest st (grown f (Give span y x) (valued b.own.vars)) in
-        (both (recover_right c f (Give span y x) (valued b.own.vars)) next (both (code_right c (Give span y x) (valued b.own.vars)) (recover_right c f (Give span y x) (valued b.own.vars) && next) right).1).0
+        (and_parts (recover_right c f (Give span y x) (valued b.own.vars)) next (and_parts (code_right c (Give span y x) (valued b.own.vars)) (recover_right c f (Give span y x) (valued b.own.vars) && next) right).1).0
 
     laid : variables_fit u labels h (top_zone (at Here) z st) (at Here) (calls st) 0 c.vars saved ≡ true
-    laid = (both (variables_fit u labels h (top_zone (at Here) z st) (at Here) (calls st) 0 c.vars saved) (stack_fits u labels h (at Here) z b.own.routine st) stack).0
+    laid = (and_parts (variables_fit u labels h (top_zone (at Here) z st) (at Here) (calls st) 0 c.vars saved) (stack_fits u labels h (at Here) z b.own.routine st) stack).0
 
     lower : stack_fits u labels h (at Here) z b.own.routine st ≡ true
-    lower = (both (variables_fit u labels h (top_zone (at Here) z st) (at Here) (calls st) 0 c.vars saved) (stack_fits u labels h (at Here) z b.own.routine st) stack).1
+    lower = (and_parts (variables_fit u labels h (top_zone (at Here) z st) (at Here) (calls st) 0 c.vars saved) (stack_fits u labels h (at Here) z b.own.routine st) stack).1
 
     abbrev first_part : Bool
     first_part = only_valued hides saved && none_valued (hidden_above below st) saved
 
     parts : (first_part ≡ true) × (has_none (just x) (hidden_above below st) && stack_hidden below rest st ≡ true)
-    parts = both first_part (has_none (just x) (hidden_above below st) && stack_hidden below rest st) hid
+    parts = and_parts first_part (has_none (just x) (hidden_above below st) && stack_hidden below rest st) hid
 
     only : only_valued hides saved ≡ true
-    only = (both (only_valued hides saved) (none_valued (hidden_above below st) saved) parts.0).0
+    only = (and_parts (only_valued hides saved) (none_valued (hidden_above below st) saved) parts.0).0
 
     shown : those (hides ++ hidden_above below st) y ≡ false
     shown = uncovered u below b.own.routine (f ∷ st) y (applies-none (context_above u below b.own.routine (f ∷ st)) (Given y x) G allowed Hidden)
@@ -159,7 +159,7 @@ module _ (u : UnitCode) (labels : Labels) (h : Objects Name) (at : Way → Way) 
     stack_fit =
         subst (λ (ls : Labels). stack_fits u ls h (at Here) z b.own.routine st ≡ true) (sym gave-so)
         (gives.below-fits u labels h (at Here) z st low below rest b.own.routine y x ts.p ts.q ts.s ts.t own hides b.own.vars saved val U fits laid (λ n e. or_left (valued b.own.vars n) (mentioned (Give span y x) n) e) tied ts.gives ts.takes ts.shapes ts.order shown only has
-        (both (has_none (just x) (hidden_above below st)) (stack_hidden below rest st) parts.1).1 lower)
+        (and_parts (has_none (just x) (hidden_above below st)) (stack_hidden below rest st) parts.1).1 lower)
 
     -- the branch that goes on fits
     pub give-fits : (l : Own) (t : ℕ) → l.vars ≡ new → l.routine ≡ b.own.routine → tree_fits u gave h at z (done (core u) b t (On l rest st)) ≡ true

@@ -2,7 +2,7 @@
 use Rattle.std.proofs.Common.{◌≡◌, ℕ, zero, suc, Bool, true, false, Option, Some, None, List, [], ◌∷◌, ◌++◌, length, refl, sym, ap, subst, ◌∙◌, inl, inr}
 use Rattle.std.specs.Prelude.{◌⊎◌, ◌&&◌, ◌||◌, not, nat_eq, ℤ}
 use Rattle.std.specs.List.{list_any}
-use Rattle.std.proofs.lemmas.Bool.{or_cases, or_left, or_right}
+use Rattle.std.proofs.lemmas.Bool.{or_cases, or_left, or_right, and_parts}
 use Rattle.perm_tree.specs.declared.ast.Span.{Span}
 use Rattle.perm_tree.specs.declared.ast.Shape.{Shape}
 use Rattle.perm_tree.specs.declared.errors.TypeKind.TheVariants.{Hidden}
@@ -20,7 +20,7 @@ use Rattle.perm_meaning.specs.Machine.{Frame, OpenBlock, OpenRecover, OpenCall, 
 use Rattle.perm_meaning.specs.NamedHeap.{Held, Op, Own, Branch, Task}
 use Rattle.perm_meaning.specs.Turns.{blocks, lent_back}
 use Rattle.perm_meaning.proofs.Leads.{none_some}
-use Rattle.perm_meaning.proofs.SameName.{both, together, eq_itself, eq_true}
+use Rattle.perm_meaning.proofs.SameName.{together, eq_itself, eq_true}
 use Rattle.perm_core.specs.Core.{core}
 use Rattle.perm_core.specs.Picture.{context_of, valued, hidden_above, just_lent, just_taken, context_above, RestGoes, TreeGoes, stack_right, tree_right, none_valued, only_valued, stack_hidden, branch_hidden, tree_hidden}
 use Rattle.perm_core.proofs.Conflicts.{unfailed}
@@ -73,7 +73,7 @@ nothing-below (suc n) S all = neither (S n) (some_below n S) (all n) (nothing-be
 
 -- what is laid by is hidden
 only-hidden : (hides : List ℕ) (vs : List Held) → only_valued hides (only tagged (those hides) vs) ≡ true
-only-hidden hides vs = ap (λ b. not b) (nothing-below (length laid) (minus (valued laid) (those hides)) (λ x. go (valued laid x) (those hides x) (λ e. (both (those hides x) (valued vs x) (only-within (those hides) vs x e)).0)))
+only-hidden hides vs = ap (λ b. not b) (nothing-below (length laid) (minus (valued laid) (those hides)) (λ x. go (valued laid x) (those hides x) (λ e. (and_parts (those hides x) (valued vs x) (only-within (those hides) vs x e)).0)))
   where
     laid : List Held
     laid = only tagged (those hides) vs
@@ -123,8 +123,8 @@ module _ (u : UnitCode) where
   hidden-instead below c a (OpenRecover own hides saved rest ∷ st) gives e =
       let first : Bool = only_valued hides saved && none_valued (hidden_above below st) saved in
       let h : List ℕ = hidden_above below st in
-      let p = both first (has_none (given c) h && stack_hidden below rest st) e in
-      let q = both (has_none (given c) h) (stack_hidden below rest st) p.1 in
+      let p = and_parts first (has_none (given c) h && stack_hidden below rest st) e in
+      let q = and_parts (has_none (given c) h) (stack_hidden below rest st) p.1 in
       together first (has_none (given a) h && stack_hidden below rest st) p.0 (together (has_none (given a) h) (stack_hidden below rest st) (none-fewer (given a) (given c) h gives q.0) q.1)
   hidden-instead below c a (OpenCall tie into y saved lent caller rest ∷ st) gives e = e
 
@@ -132,7 +132,7 @@ module _ (u : UnitCode) where
   settled-hidden : (below : List ℕ) (b : Branch) (vs : List Held) (c : Code) (st : List (Frame Held)) → none_valued (hidden_above below st) vs ≡ true → stack_hidden below c st ≡ true → branch_hidden below (settled (core u) b vs c st) ≡ true
   settled-hidden below b vs End (OpenBlock own rest ∷ st) e f =
       settled-hidden below b (clear_all tagged vs own) rest st
-      (none-fewer (valued (clear_all tagged vs own)) (valued vs) (hidden_above below st) (λ x q. (both (valued vs x) (not (those own x)) (clear_all-within vs own x q)).0) e) f
+      (none-fewer (valued (clear_all tagged vs own)) (valued vs) (hidden_above below st) (λ x q. (and_parts (valued vs x) (not (those own x)) (clear_all-within vs own x q)).0) e) f
   settled-hidden below b vs End [] e f = together (none_valued below vs) true e refl
   settled-hidden below b vs End (OpenRecover own hides saved rest ∷ st) e f = together (none_valued (hides ++ hidden_above below st) vs) (stack_hidden below End (OpenRecover own hides saved rest ∷ st)) e f
   settled-hidden below b vs End (OpenCall tie into y saved lent caller rest ∷ st) e f = together true (stack_hidden below End (OpenCall tie into y saved lent caller rest ∷ st)) refl f
@@ -226,13 +226,13 @@ module _ (u : UnitCode) where
       h = hidden_above below b.stack
 
       few : (G : Vars) → none_valued h (only tagged G b.own.vars) ≡ true
-      few G = none-fewer (valued (only tagged G b.own.vars)) (valued b.own.vars) h (λ x m. (both (G x) (valued b.own.vars x) (only-within G b.own.vars x m)).1) (subst (λ (z : List (Frame Held)). none_valued (hidden_above below z) b.own.vars ≡ true) here e)
+      few G = none-fewer (valued (only tagged G b.own.vars)) (valued b.own.vars) h (λ x m. (and_parts (G x) (valued b.own.vars x) (only-within G b.own.vars x m)).1) (subst (λ (z : List (Frame Held)). none_valued (hidden_above below z) b.own.vars ≡ true) here e)
   turn-hidden below b t w _ _ _ _ H here e f r g (recovering at x own hides body rest st l saved goes q) =
       on-hidden below b l t inner body (OpenRecover own hides saved rest ∷ st) goes.vars
       (none-all (valued inner) (hides ++ h) (λ y m. unhidden y (split-any y hides m)))
       (ap (λ (ws : List Held). (only_valued hides ws && none_valued h ws) && (has_none (given body) h && stack_hidden below rest st)) q
       ∙ together (only_valued hides laid && none_valued h laid) (has_none (given body) h && stack_hidden below rest st)
-      (together (only_valued hides laid) (none_valued h laid) (only-hidden hides b.own.vars) (none-fewer (valued laid) (valued b.own.vars) h (λ y m. (both (those hides y) (valued b.own.vars y) (only-within (those hides) b.own.vars y m)).1) e))
+      (together (only_valued hides laid) (none_valued h laid) (only-hidden hides b.own.vars) (none-fewer (valued laid) (valued b.own.vars) h (λ y m. (and_parts (those hides y) (valued b.own.vars y) (only-within (those hides) b.own.vars y m)).1) e))
       (together (has_none (given body) h) (stack_hidden below rest st) (none-within (just x) (given body) h (λ y m. given-one body x y gift m) target) (hidden-instead below c rest st (λ y m. m) f)))
     where
       c : Code
@@ -264,7 +264,7 @@ module _ (u : UnitCode) where
         where
           go : (b : Bool) → valued inner y ≡ b → (those hides y ≡ true) ⊎ (those h y ≡ true) → b ≡ false
           go false p m = refl
-          go true p (inl m) = clash (those hides y) m (both (not (those hides y)) _ (only-within (λ y. not (those hides y)) b.own.vars y p)).0
+          go true p (inl m) = clash (those hides y) m (and_parts (not (those hides y)) _ (only-within (λ y. not (those hides y)) b.own.vars y p)).0
             where
               clash : (t : Bool) → t ≡ true → not t ≡ true → true ≡ false
               clash true i j = j_absurd j
@@ -272,14 +272,14 @@ module _ (u : UnitCode) where
                   j_absurd : false ≡ true → true ≡ false
                   j_absurd j = sym j
               clash false i j = sym i
-          go true p (inr m) = sym (both (not (those hides y)) (valued b.own.vars y) (only-within (λ y. not (those hides y)) b.own.vars y p)).1 ∙ all-none (valued b.own.vars) h y e m
+          go true p (inr m) = sym (and_parts (not (those hides y)) (valued b.own.vars y) (only-within (λ y. not (those hides y)) b.own.vars y p)).1 ∙ all-none (valued b.own.vars) h y e m
 
       gift : given body x ≡ true
       gift =
           let k = context_of u b.own.routine in
           let U : Vars = valued b.own.vars in
-          let right = (both _ (is_scoped k c U) (top-right u b.own.routine c st U r)).1 in
-          (both (given body x) _ (both (given body x && _) _ right).0).0
+          let right = (and_parts _ (is_scoped k c U) (top-right u b.own.routine c st U r)).1 in
+          (and_parts (given body x) _ (and_parts (given body x && _) _ right).0).0
 
       target : (y : ℕ) → those h y ≡ true → just x y ≡ false
       target y m = go (nat_eq y x) refl
@@ -300,7 +300,7 @@ module _ (u : UnitCode) where
       new = assign (from_either (those hides) saved ws) x v
 
       parts : (only_valued hides saved && none_valued h saved ≡ true) × ((has_none (just x) h ≡ true) × (stack_hidden below rest st ≡ true))
-      parts = let p = both (only_valued hides saved && none_valued h saved) (has_none (just x) h && stack_hidden below rest st) f in (p.0, both (has_none (just x) h) (stack_hidden below rest st) p.1)
+      parts = let p = and_parts (only_valued hides saved && none_valued h saved) (has_none (just x) h && stack_hidden below rest st) f in (p.0, and_parts (has_none (just x) h) (stack_hidden below rest st) p.1)
 
       less : IsWithin (valued new) (plus (plus (valued saved) (valued b.own.vars)) (just x))
       less z m = pick (or_cases (valued (from_either (those hides) saved ws) z) (just x z) (assign-within (from_either (those hides) saved ws) x v z m))
@@ -309,10 +309,10 @@ module _ (u : UnitCode) where
           S = plus (valued saved) (valued b.own.vars)
 
           old : (those hides z && valued saved z ≡ true) ⊎ (valued ws z && not (those hides z) ≡ true) → plus S (just x) z ≡ true
-          old (inl p) = or_left (S z) (just x z) (or_left (valued saved z) (valued b.own.vars z) (both (those hides z) (valued saved z) p).1)
+          old (inl p) = or_left (S z) (just x z) (or_left (valued saved z) (valued b.own.vars z) (and_parts (those hides z) (valued saved z) p).1)
           old (inr p) =
               or_left (S z) (just x z) (or_right (valued saved z) (valued b.own.vars z)
-              (clear-within b.own.vars y z (both (valued (clear tagged b.own.vars y) z) (not (those own z)) (clear_all-within (clear tagged b.own.vars y) own z (both (valued ws z) (not (those hides z)) p).0)).0))
+              (clear-within b.own.vars y z (and_parts (valued (clear tagged b.own.vars y) z) (not (those own z)) (clear_all-within (clear tagged b.own.vars y) own z (and_parts (valued ws z) (not (those hides z)) p).0)).0))
 
           pick : (valued (from_either (those hides) saved ws) z ≡ true) ⊎ (just x z ≡ true) → plus S (just x) z ≡ true
           pick (inl p) = old (or_cases (those hides z && valued saved z) (valued ws z && not (those hides z)) (either-within (those hides) saved ws z p))
@@ -321,7 +321,7 @@ module _ (u : UnitCode) where
       nothing : (z : ℕ) → those h z ≡ true → plus (plus (valued saved) (valued b.own.vars)) (just x) z ≡ false
       nothing z m =
           neither (plus (valued saved) (valued b.own.vars) z) (just x z)
-          (neither (valued saved z) (valued b.own.vars z) (all-none (valued saved) h z (both (only_valued hides saved) (none_valued h saved) parts.0).1 m) (all-none (valued b.own.vars) (hides ++ h) z e (any-right z hides h m)))
+          (neither (valued saved z) (valued b.own.vars z) (all-none (valued saved) h z (and_parts (only_valued hides saved) (none_valued h saved) parts.0).1 m) (all-none (valued b.own.vars) (hides ++ h) z e (any-right z hides h m)))
           (all-none (just x) h z parts.1.0 m)
   turn-hidden below b t w _ _ _ _ H here e f r g (returning at a tie into y saved lent caller rest st v l q goes) =
       on-hidden below b l t new rest st goes.vars (none-within (plus (valued saved) (plus (just_lent lent y) (just_taken into))) (valued new) h less nothing) parts.1
@@ -336,7 +336,7 @@ module _ (u : UnitCode) where
       L = plus (just_lent lent y) (just_taken into)
 
       parts : (none_valued h saved && has_none L h ≡ true) × (stack_hidden below rest st ≡ true)
-      parts = both (none_valued h saved && has_none L h) (stack_hidden below rest st) f
+      parts = and_parts (none_valued h saved && has_none L h) (stack_hidden below rest st) f
 
       less : IsWithin (valued new) (plus (valued saved) L)
       less z m = pick (or_cases (valued (lent_back lent y saved) z) (just_taken into z) (into-within (lent_back lent y saved) into v z m))
@@ -350,7 +350,7 @@ module _ (u : UnitCode) where
           pick (inr p) = or_right (valued saved z) (L z) (or_right (just_lent lent y z) (just_taken into z) p)
 
       nothing : (z : ℕ) → those h z ≡ true → plus (valued saved) L z ≡ false
-      nothing z m = let p = both (none_valued h saved) (has_none L h) parts.0 in neither (valued saved z) (L z) (all-none (valued saved) h z p.0 m) (all-none L h z p.1 m)
+      nothing z m = let p = and_parts (none_valued h saved) (has_none L h) parts.0 in neither (valued saved z) (L z) (all-none (valued saved) h z p.0 m) (all-none L h z p.1 m)
 
   -- ---------- joins ----------
   -- a side that went well has its variables, and nothing below it
@@ -359,7 +359,7 @@ module _ (u : UnitCode) where
   fine-leaf h (Leaf b) vs n p e f = by_close b.close refl
     where
       top : none_valued (hidden_above h b.stack) b.own.vars ≡ true
-      top = (both (none_valued (hidden_above h b.stack) b.own.vars) (stack_hidden h b.code b.stack) f).0
+      top = (and_parts (none_valued (hidden_above h b.stack) b.own.vars) (stack_hidden h b.code b.stack) f).0
 
       unturned : (t : ℕ) → over (stage_by_turns t b.own) ≡ Some (Fine vs n p) → none_valued h vs ≡ true
       unturned zero e = absurd (let no : ⊥ = cc e in no)
@@ -389,7 +389,7 @@ module _ (u : UnitCode) where
       h = hidden_above below b.stack
 
       parts : (none_valued h b.own.vars ≡ true) × (stack_hidden below b.code b.stack ≡ true)
-      parts = both (none_valued h b.own.vars) (stack_hidden below b.code b.stack) top
+      parts = and_parts (none_valued h b.own.vars) (stack_hidden below b.code b.stack) top
 
       on : (vs : List Held) (t : ℕ) (q : List ℤ) → none_valued h vs ≡ true → tree_hidden below (resumed (core u) b (Fine vs t q)) ≡ true
       on vs t q e = settled-hidden below (record b { own = record b.own { printed = q }; turns = t }) vs b.code b.stack e parts.1
@@ -419,22 +419,22 @@ module _ (u : UnitCode) where
   pub keeps-hidden : (o : Op) (v : Option Held) (below : List ℕ) (H : Vars) (w : Way) (t after : Task) → tree_hidden below t ≡ true → tree_right u t ≡ true → TreeGoes u below t H → EventAt u o v w t after → tree_hidden below after ≡ true
   keeps-hidden o v below H _ _ after e r g (refused_leaf b t _ q open_ is) = ap (tree_hidden below) is ∙ ended-hidden below
   keeps-hidden o v below H _ _ after e r g (told_leaf b t w d _ q open_ due turn is) =
-      let p = both (none_valued (hidden_above below b.stack) b.own.vars) (stack_hidden below b.code b.stack) e in
+      let p = and_parts (none_valued (hidden_above below b.stack) b.own.vars) (stack_hidden below b.code b.stack) e in
       ap (tree_hidden below) is ∙ turn-hidden below b t w b.code b.stack o d H refl p.0 p.1 r (unfailed u below b H t due g) turn
   keeps-hidden o v below H _ _ after e r g (joining b p l r1 x y _ q ended_l ended_r is) =
       let h : List ℕ = hidden_above below b.stack in
-      let s = both (branch_hidden below b) (tree_hidden h l && tree_hidden h r1) e in
-      let k = both (tree_hidden h l) (tree_hidden h r1) s.1 in
+      let s = and_parts (branch_hidden below b) (tree_hidden h l && tree_hidden h r1) e in
+      let k = and_parts (tree_hidden h l) (tree_hidden h r1) s.1 in
       ap (tree_hidden below) is ∙ resumed-hidden below b p l r1 x y ended_l ended_r s.0 k.0 k.1
   keeps-hidden o v below H _ _ _ e r g (on_left w b p l r1 after is) =
       let h : List ℕ = hidden_above below b.stack in
-      let s = both (branch_hidden below b) (tree_hidden h l && tree_hidden h r1) e in
-      let k = both (tree_hidden h l) (tree_hidden h r1) s.1 in
-      let q = both (tree_right u l) (tree_right u r1) (both _ (tree_right u l && tree_right u r1) r).1 in
+      let s = and_parts (branch_hidden below b) (tree_hidden h l && tree_hidden h r1) e in
+      let k = and_parts (tree_hidden h l) (tree_hidden h r1) s.1 in
+      let q = and_parts (tree_right u l) (tree_right u r1) (and_parts _ (tree_right u l && tree_right u r1) r).1 in
       together (branch_hidden below b) (tree_hidden h after && tree_hidden h r1) s.0 (together (tree_hidden h after) (tree_hidden h r1) (keeps-hidden o v h g.0 w l after k.0 q.0 g.2 is) k.1)
   keeps-hidden o v below H _ _ _ e r g (on_right w b p l r1 after is) =
       let h : List ℕ = hidden_above below b.stack in
-      let s = both (branch_hidden below b) (tree_hidden h l && tree_hidden h r1) e in
-      let k = both (tree_hidden h l) (tree_hidden h r1) s.1 in
-      let q = both (tree_right u l) (tree_right u r1) (both _ (tree_right u l && tree_right u r1) r).1 in
+      let s = and_parts (branch_hidden below b) (tree_hidden h l && tree_hidden h r1) e in
+      let k = and_parts (tree_hidden h l) (tree_hidden h r1) s.1 in
+      let q = and_parts (tree_right u l) (tree_right u r1) (and_parts _ (tree_right u l && tree_right u r1) r).1 in
       together (branch_hidden below b) (tree_hidden h l && tree_hidden h after) s.0 (together (tree_hidden h l) (tree_hidden h after) k.0 (keeps-hidden o v h g.1 w r1 after k.1 q.1 g.3 is))

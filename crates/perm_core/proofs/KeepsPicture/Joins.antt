@@ -2,7 +2,7 @@
 use Rattle.std.proofs.Common.{◌≡◌, ℕ, zero, suc, ◌+◌, ◌<◌, Bool, true, false, Some, List, [], ◌∷◌, ◌++◌, length, refl, sym, ap, subst, ◌∙◌, inl, inr, arith}
 use Rattle.std.specs.Prelude.{◌⊎◌, ◌&&◌, ◌||◌, not, nat_eq, cond, slice_get}
 use Rattle.std.specs.List.{list_any}
-use Rattle.std.proofs.lemmas.Bool.{or_cases, or_left, or_right}
+use Rattle.std.proofs.lemmas.Bool.{or_cases, or_left, or_right, and_parts}
 use Rattle.std.proofs.Math.Bool.{and-false}
 use Rattle.perm_tree.specs.declared.ast.Perm.{Perm}
 use Rattle.perm_tree.specs.declared.ast.Perm.TheVariants.{Isolated, Immutable, Readable, Writable}
@@ -21,7 +21,7 @@ use Rattle.perm_meaning.specs.Objects.{Objects}
 use Rattle.perm_meaning.specs.Custody.{from_either, merged}
 use Rattle.perm_meaning.specs.Machine.{Frame, OpenBlock, OpenRecover, OpenCall, Way}
 use Rattle.perm_meaning.specs.NamedHeap.{Held}
-use Rattle.perm_meaning.proofs.SameName.{both, together, eq_true, eq_itself}
+use Rattle.perm_meaning.proofs.SameName.{together, eq_true, eq_itself}
 use Rattle.perm_tree.specs.Code.{Tie, Shares, Raises, Lends}
 use Rattle.perm_core.specs.Regions.{Zone, Base, Under, Region, OwnOf, OfVariable, OfField, Labels, same_way, same_zone, same_region, may_read, var_may_lead, calls, zones, top_zone, left_zone, right_zone}
 use Rattle.perm_core.specs.Picture.{value_fits, variables_fit, stack_fits, object_fits}
@@ -123,7 +123,7 @@ module _ (u : UnitCode) (labels : Labels) where
     where
       go : (t : Bool) → list_any (nat_eq x) (isolated_among u labels c G) ≡ t → list_any (nat_eq x) (isolated_among u labels c G) ≡ false
       go false q = q
-      go true q = absurd (let f : true ≡ false = sym (both (isolated_vars c x) (G x) (numbers-only (length c.vars) 0 (meet (isolated_vars c) G) x q)).1 ∙ e in cc)
+      go true q = absurd (let f : true ≡ false = sym (and_parts (isolated_vars c x) (G x) (numbers-only (length c.vars) 0 (meet (isolated_vars c) G) x q)).1 ∙ e in cc)
 
 -- ---------- zones ----------
 -- a zone neither begins at a node nor stands in one that does

@@ -2,7 +2,7 @@
 use Rattle.std.proofs.Common.{◌≡◌, ℕ, ◌<◌, true, Some, None, List, [], ◌∷◌, length, sym, subst, arith, inl, inr}
 use Rattle.std.specs.Prelude.{◌⊎◌, ◌||◌, not, nat_eq}
 use Rattle.std.specs.List.{list_any}
-use Rattle.std.proofs.lemmas.Bool.{or_cases, or_left, or_right}
+use Rattle.std.proofs.lemmas.Bool.{or_cases, or_left, or_right, and_parts}
 use Rattle.perm_tree.specs.declared.ast.Span.{Span}
 use Rattle.perm_tree.specs.Code.{Term, Instruction, Declare, Assign, LoadField, LoadLength, LoadItem, TakeField, NewObject, NewArray, StoreField, StoreItem, Invoke, Print, Code, End, Give, Return, Do, If, While, Par, Recover, UnitCode}
 use Rattle.perm_tree.specs.Mentions.{argument_consumes, any_in_argument, just_if, just_option, arguments_consume, consumes, assigns, mentions, written, block_writes}
@@ -18,7 +18,6 @@ use Rattle.perm_rules.proofs.RefusalLaws.{monotone}
 use Rattle.perm_meaning.specs.Expressions.{tagged, clear_all}
 use Rattle.perm_meaning.specs.Machine.{Frame, OpenBlock, OpenRecover, OpenCall, Leaf, On, settled, done}
 use Rattle.perm_meaning.specs.NamedHeap.{Held, Own, Branch}
-use Rattle.perm_meaning.proofs.SameName.{both}
 use Rattle.perm_core.specs.Core.{core}
 use Rattle.perm_core.specs.Picture.{context_of, valued, live_after, rest_of, routine_below, context_above, RestGoes, TreeGoes}
 use Rattle.perm_core.proofs.KeepsPicture.GoesOfTrees.{Further, live-more, rest-more}
@@ -33,7 +32,7 @@ then-made : (s : effects.Effect) (W R : Vars) (t : effects.Effect) → IsWithin 
 then-made s W R t f g x e = pick (or_cases (minus s.made t.lost x) (t.made x) e)
   where
     pick : (minus s.made t.lost x ≡ true) ⊎ (t.made x ≡ true) → plus W R x ≡ true
-    pick (inl q) = or_left (W x) (R x) (f x (both (s.made x) (not (t.lost x)) q).0)
+    pick (inl q) = or_left (W x) (R x) (f x (and_parts (s.made x) (not (t.lost x)) q).0)
     pick (inr q) = or_right (W x) (R x) (g x q)
 
 instruction-made : (i : Instruction) → IsWithin (instruction_effect i).made (plus (consumes i) (assigns i))
@@ -88,7 +87,7 @@ made-written (If at t own1 a own2 b rest) x e =
     let writes2 = block_writes own2 b in
     regroup writes1 writes2 (written rest) x
     (then-made (effects.either (block_effect own1 a) (block_effect own2 b)) (plus writes1 writes2) (written rest) (effect rest)
-    (λ y q. or_left (writes1 y) (writes2 y) (block-made own1 a (made-written a) y (both ((block_effect own1 a).made y) ((block_effect own2 b).made y) q).0)) (made-written rest) x e)
+    (λ y q. or_left (writes1 y) (writes2 y) (block-made own1 a (made-written a) y (and_parts ((block_effect own1 a).made y) ((block_effect own2 b).made y) q).0)) (made-written rest) x e)
 made-written (While at t own body rest) x e =
     then-made (effects.repeated (block_effect own body)) (block_writes own body) (written rest) (effect rest) (λ y q. absurd (let no : ⊥ = cc q in no)) (made-written rest) x e
 made-written (Par at own1 a own2 b rest) x e =
@@ -106,7 +105,7 @@ pub same : (G : Vars) → IsWithin G G
 same G x e = e
 
 minus-part : (G H : Vars) → IsWithin (minus G H) G
-minus-part G H x e = (both (G x) (not (H x)) e).0
+minus-part G H x e = (and_parts (G x) (not (H x)) e).0
 
 -- from the greatest part from which a `while` goes round it goes too
 round-again : (c : Context) (at : Span) (t : Term) (own : List ℕ) (body rest : Code) (G H : Vars) (goes : Goes c (While at t own body rest) G H) → Goes c (While at t own body rest) goes.0 H
@@ -190,10 +189,10 @@ module _ (u : UnitCode) where
       B = t.goes.2
 
       left_part : IsWithin (meet (minus A (those own1)) (minus B (those own2))) (minus A (those own1))
-      left_part y e = (both (minus A (those own1) y) (minus B (those own2) y) e).0
+      left_part y e = (and_parts (minus A (those own1) y) (minus B (those own2) y) e).0
 
       right_part : IsWithin (meet (minus A (those own1)) (minus B (those own2))) (minus B (those own2))
-      right_part y e = (both (minus A (those own1) y) (minus B (those own2) y) e).1
+      right_part y e = (and_parts (minus A (those own1) y) (minus B (those own2) y) e).1
 
       block : (own : List ℕ) (e : Code) (E : Vars) → Goes (context_above u below m st) e G E → IsWithin (meet (minus A (those own1)) (minus B (those own2))) (minus E (those own)) → Further (λ M. RestGoes u below m e (OpenBlock own rest ∷ st) G M) H
       block own e E on less = let r = instead-from below m c st G H t rest (meet (minus A (those own1)) (minus B (those own2))) (minus E (those own)) t.goes.5 less in record { ends = r.ends; goes = (E, on, r.goes); more = r.more }

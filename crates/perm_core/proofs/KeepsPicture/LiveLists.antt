@@ -1,7 +1,7 @@
 -- Which variables keep a value, or get one, where variables are assigned, cleared, handed on or begun.
 use Rattle.std.proofs.Common.{◌≡◌, ℕ, zero, suc, ◌+◌, ◌<◌, Bool, true, false, Option, Some, None, List, [], ◌∷◌, ◌++◌, length, refl, sym, ap, subst, ◌∙◌, arith, inl, inr}
 use Rattle.std.specs.Prelude.{◌⊎◌, ◌||◌, not, nat_eq, cond, slice_get, slice_set, replicate}
-use Rattle.std.proofs.lemmas.Bool.{or_cases, or_left, or_right}
+use Rattle.std.proofs.lemmas.Bool.{or_cases, or_left, or_right, and_parts}
 use Rattle.perm_tree.specs.declared.ast.UnaryOp.{UnaryOp}
 use Rattle.perm_tree.specs.declared.ast.BinaryOp.{BinaryOp}
 use Rattle.perm_tree.specs.Code.{Term, LongLit, BoolLit, NullLit, Local, Unary, Binary, Argument, Expression, Consumed, Instruction, UnitCode}
@@ -15,7 +15,7 @@ use Rattle.perm_meaning.specs.Expressions.{tagged, filled, held, then_unary, the
 use Rattle.perm_meaning.specs.Custody.{from_either_at, from_either, only_at, only}
 use Rattle.perm_meaning.specs.NamedHeap.{Held, Op, Own}
 use Rattle.perm_meaning.specs.Effects.{Load, Take, Make}
-use Rattle.perm_meaning.proofs.SameName.{both, together, eq_itself, eq_true}
+use Rattle.perm_meaning.proofs.SameName.{together, eq_itself, eq_true}
 use Rattle.perm_core.specs.Picture.{has_value, valued}
 use Rattle.perm_core.proofs.TwoOperations.{get-beside}
 use Rattle.perm_core.proofs.KeepsPicture.ValuedLists.{has-of, valued-of}
@@ -59,12 +59,12 @@ unless-just y x e = go (nat_eq y x) e
     go false e = refl
 
 pub clear-has : (vs : List Held) (x : ℕ) → IsWithin (minus (valued vs) (just x)) (valued (clear tagged vs x))
-clear-has vs x y e = let p = both (valued vs y) (not (just x y)) e in other-has vs x _ y (unless-just y x p.1) p.0
+clear-has vs x y e = let p = and_parts (valued vs y) (not (just x y)) e in other-has vs x _ y (unless-just y x p.1) p.0
 
 pub clear_all-has : (own : List ℕ) (vs : List Held) → IsWithin (minus (valued vs) (those own)) (valued (clear_all tagged vs own))
-clear_all-has [] vs y e = (both (valued vs y) (not (those [] y)) e).0
+clear_all-has [] vs y e = (and_parts (valued vs y) (not (those [] y)) e).0
 clear_all-has (x ∷ own) vs y e =
-    let p = both (valued vs y) (not (those (x ∷ own) y)) e in
+    let p = and_parts (valued vs y) (not (those (x ∷ own) y)) e in
     let q = split (nat_eq y x) (those own y) p.1 in
     clear_all-has own (clear tagged vs x) y (together (valued (clear tagged vs x) y) (not (those own y)) (clear-has vs x y (together (valued vs y) (not (nat_eq y x)) p.0 q.0)) q.1)
   where
@@ -79,7 +79,7 @@ only-at i G (v ∷ vs) zero a g e = let same : i + 0 ≡ i = omega arith in ap (
 only-at i G (v ∷ vs) (suc y) a g e = let same : i + suc y ≡ suc i + y = omega arith in only-at (suc i) G vs y a (ap G (sym same) ∙ g) e
 
 pub only-has : (G : Vars) (vs : List Held) → IsWithin (meet G (valued vs)) (valued (only tagged G vs))
-only-has G vs y e = go (both (G y) (valued vs y) e)
+only-has G vs y e = go (and_parts (G y) (valued vs y) e)
   where
     go : (G y ≡ true) × (valued vs y ≡ true) → valued (only tagged G vs) y ≡ true
     go (g, h) = let v = has-of vs y h in let same : 0 + y ≡ y = omega arith in valued-of (only tagged G vs) y v.0 (only-at 0 G vs y v.0 (ap G same ∙ g) v.1)
@@ -157,7 +157,7 @@ argument-has (Consumed y) vs v q = held-has (slice_get vs y) v q
 
 -- ---------- statements ----------
 less-none : (G : Vars) → IsWithin (minus G none) G
-less-none G y e = (both (G y) true e).0
+less-none G y e = (and_parts (G y) true e).0
 
 pub one-has : (vs ws : List Held) (a : Argument) (v : Held) → Gives_one vs a v ws → ((b : Value Name) × (v ≡ Some b)) × IsWithin (minus (valued vs) (argument_consumes a)) (valued ws)
 one-has vs _ _ _ (plain_one e v q) = (eval-has e vs v q, less-none (valued vs))
@@ -173,7 +173,7 @@ AllValues [] = Unit {0}
 AllValues (v ∷ vs) = ((a : Value Name) × (v ≡ Some a)) × AllValues vs
 
 pub minus-both : (G C D : Vars) (y : ℕ) → minus G (plus C D) y ≡ true → (minus G C y ≡ true) × (not (D y) ≡ true)
-minus-both G C D y e = let p = both (G y) (not (C y || D y)) e in let q = split (C y) (D y) p.1 in (together (G y) (not (C y)) p.0 q.0, q.1)
+minus-both G C D y e = let p = and_parts (G y) (not (C y || D y)) e in let q = split (C y) (D y) p.1 in (together (G y) (not (C y)) p.0 q.0, q.1)
   where
     split : (a b : Bool) → not (a || b) ≡ true → (not a ≡ true) × (not b ≡ true)
     split true b e = absurd (let no : ⊥ = cc e in no)

@@ -1,6 +1,7 @@
 -- After an event of a tree the code to come goes on, to no fewer variables; but where a root gives back the value of a run it ends.
 use Rattle.std.proofs.Common.{◌≡◌, ℕ, zero, suc, ◌<◌, Bool, true, false, Option, Some, None, List, [], ◌∷◌, length, refl, sym, ap, subst, ◌∙◌, arith, inl, inr}
 use Rattle.std.specs.Prelude.{◌⊎◌, ◌&&◌, ◌||◌, not, nat_eq, ℤ, slice_get}
+use Rattle.std.proofs.lemmas.Bool.{and_parts}
 use Rattle.perm_tree.specs.declared.ast.Shape.{Shape}
 use Rattle.perm_tree.specs.declared.ast.Ty.{Ty}
 use Rattle.perm_tree.specs.Code.{Tie, Shares, Raises, Lends, Instruction, Code, End, Give, Return, Do, If, While, Par, Recover, UnitCode}
@@ -22,7 +23,7 @@ use Rattle.perm_meaning.specs.Effects.{first_vars}
 use Rattle.perm_meaning.specs.Machine.{Frame, OpenBlock, OpenRecover, OpenCall, Close, Returning, Failing, Blocks, Leaf, Fork, Way, Here, GoL, GoR, Final, Fine, GaveBack, Failed, Stage, Over, Due, over, stage_by_turns, stage_by_code, stage_from, stage, final, Did, Splits, done, resumed, join_of}
 use Rattle.perm_meaning.specs.NamedHeap.{Held, Op, Own, Branch, Task}
 use Rattle.perm_meaning.proofs.Leads.{none_some}
-use Rattle.perm_meaning.proofs.SameName.{both, eq_itself, eq_true}
+use Rattle.perm_meaning.proofs.SameName.{eq_itself, eq_true}
 use Rattle.perm_core.specs.Core.{core}
 use Rattle.perm_core.specs.Endings.{Ending, ByNothing, is_by_return, is_open, stack_ends, is_settled, branch_ends, tree_ends}
 use Rattle.perm_core.specs.Marked.{calls_right}
@@ -61,7 +62,7 @@ module _ (u : UnitCode) (labels : Labels) (h : Objects Name) where
       known : (o : Option Ty) → type_of (context_of u caller) x ≡ o → if_both_known (Some (call_type Raises t)) o fits ≡ true → (s : Ty) × (type_of (context_of u caller) x ≡ Some s)
       known None q e = absurd (let no : ⊥ = cc e in no)
       known (Some s) q e = (s, q)
-  taker-typed Lends t x caller e = known (type_of (context_of u caller) x) refl (both (not (is_tied t)) (if_both_known (Some t) (type_of (context_of u caller) x) fits) e).1
+  taker-typed Lends t x caller e = known (type_of (context_of u caller) x) refl (and_parts (not (is_tied t)) (if_both_known (Some t) (type_of (context_of u caller) x) fits) e).1
     where
       known : (o : Option Ty) → type_of (context_of u caller) x ≡ o → if_both_known (Some t) o fits ≡ true → (s : Ty) × (type_of (context_of u caller) x ≡ Some s)
       known None q e = absurd (let no : ⊥ = cc e in no)
@@ -70,7 +71,7 @@ module _ (u : UnitCode) (labels : Labels) (h : Objects Name) where
   -- what is lent is a value, and the lent variable has a type
   lent-typed : (z : Zone) (tie : Tie) (o : Option Ty) (w : Held) → lent_right u labels h tie o (Some w) && lent_fits u labels h z o (Some w) ≡ true → ((s : Ty) × (o ≡ Some s)) × ((a : Value Name) × (w ≡ Some a))
   lent-typed z tie (Some s) (Some a) e = ((s, refl), (a, refl))
-  lent-typed z tie (Some s) None e = absurd (let q = (both (lent_right u labels h tie (Some s) (Some None)) false e).1 in let no : ⊥ = cc q in no)
+  lent-typed z tie (Some s) None e = absurd (let q = (and_parts (lent_right u labels h tie (Some s) (Some None)) false e).1 in let no : ⊥ = cc q in no)
   lent-typed z Shares None w e = absurd (let no : ⊥ = cc e in no)
   lent-typed z Raises None w e = absurd (let no : ⊥ = cc e in no)
   lent-typed z Lends None w e = absurd (let no : ⊥ = cc e in no)
@@ -126,7 +127,7 @@ module _ (u : UnitCode) (labels : Labels) (h : Objects Name) where
       inl (on-goes u below b b.own t b.own.routine b.own.vars rest st H refl refl (while-goes u below b.own.routine at e own body rest st (valued b.own.vars) H goes).1)
   turn-goes accepted z w below k b t x _ _ _ _ H here answer vars stack ending_k hid hidden right goes (parting at own1 a own2 a2 rest st p q) =
       inl (subst (λ (e : Blocks). Further (λ L. TreeGoes u below (done (core u) b t (Splits e rest)) L) H) (sym q)
-      (split-goes u below b t at own1 a own2 a2 rest H c none.0 none.1 sides.0 (both (is_scoped c a2 U) (is_scoped c rest M) sides.1).0 (subst (λ (s : List (Frame Held)). RestGoes u below b.own.routine (Par at own1 a own2 a2 rest) s (valued b.own.vars) H) here goes)))
+      (split-goes u below b t at own1 a own2 a2 rest H c none.0 none.1 sides.0 (and_parts (is_scoped c a2 U) (is_scoped c rest M) sides.1).0 (subst (λ (s : List (Frame Held)). RestGoes u below b.own.routine (Par at own1 a own2 a2 rest) s (valued b.own.vars) H) here goes)))
     where
       c : Context
       c = context_of u b.own.routine
@@ -135,19 +136,19 @@ module _ (u : UnitCode) (labels : Labels) (h : Objects Name) where
       U = valued b.own.vars
 
       scoped : is_scoped c (Par at own1 a own2 a2 rest) U ≡ true
-      scoped = (both (calls_right c (Par at own1 a own2 a2 rest)) (is_scoped c (Par at own1 a own2 a2 rest) U) (top-right u b.own.routine (Par at own1 a own2 a2 rest) st U right)).1
+      scoped = (and_parts (calls_right c (Par at own1 a own2 a2 rest)) (is_scoped c (Par at own1 a own2 a2 rest) U) (top-right u b.own.routine (Par at own1 a own2 a2 rest) st U right)).1
 
       M : Vars
       M = plus U (plus (block_mentions own1 a) (block_mentions own2 a2))
 
       halves : (has_none U own1 && has_none U own2 ≡ true) × (is_scoped c a U && (is_scoped c a2 U && is_scoped c rest M) ≡ true)
-      halves = both (has_none U own1 && has_none U own2) (is_scoped c a U && (is_scoped c a2 U && is_scoped c rest M)) scoped
+      halves = and_parts (has_none U own1 && has_none U own2) (is_scoped c a U && (is_scoped c a2 U && is_scoped c rest M)) scoped
 
       none : (has_none U own1 ≡ true) × (has_none U own2 ≡ true)
-      none = both (has_none U own1) (has_none U own2) halves.0
+      none = and_parts (has_none U own1) (has_none U own2) halves.0
 
       sides : (is_scoped c a U ≡ true) × (is_scoped c a2 U && is_scoped c rest M ≡ true)
-      sides = both (is_scoped c a U) (is_scoped c a2 U && is_scoped c rest M) halves.1
+      sides = and_parts (is_scoped c a U) (is_scoped c a2 U && is_scoped c rest M) halves.1
   turn-goes accepted z w below k b t x _ _ _ _ H here answer vars stack ending_k hid hidden right goes (recovering at y own hides body rest st l saved on q) =
       inl (on-goes u below b l t b.own.routine (only tagged (λ y. not (those hides y)) b.own.vars) body (OpenRecover own hides saved rest ∷ st) H on.vars on.routine
       (subst (λ (g : List Held). Further (λ M. RestGoes u below b.own.routine body (OpenRecover own hides g rest ∷ st) (valued (only tagged (λ y. not (those hides y)) b.own.vars)) M) H) (sym q)
@@ -157,8 +158,8 @@ module _ (u : UnitCode) (labels : Labels) (h : Objects Name) where
       let ts = (context_of u m).vars in
       let has = held-has (slice_get b.own.vars y) v q in
       let even = lengths (top_zone w z (OpenRecover own hides saved rest ∷ st)) w (calls st) ts b.own.vars vars in
-      let even_saved = lengths (top_zone w z st) w (calls st) ts saved (both (variables_fit u labels h (top_zone w z st) w (calls st) 0 ts saved) (stack_fits u labels h w z m st) stack).0 in
-      let only_hid = (both (only_valued hides saved) (none_valued (hidden_above below st) saved) (both (only_valued hides saved && none_valued (hidden_above below st) saved) _ hidden).0).0 in
+      let even_saved = lengths (top_zone w z st) w (calls st) ts saved (and_parts (variables_fit u labels h (top_zone w z st) w (calls st) 0 ts saved) (stack_fits u labels h w z m st) stack).0 in
+      let only_hid = (and_parts (only_valued hides saved) (none_valued (hidden_above below st) saved) (and_parts (only_valued hides saved && none_valued (hidden_above below st) saved) _ hidden).0).0 in
       inl (on-goes u below b l t m _ rest st H on.vars on.routine (give-goes u below m at y e own hides saved rest st b.own.vars v has.0 H has.1 even even_saved hid only_hid goes))
   turn-goes accepted z w below k b t x _ _ _ _ H here answer vars stack ending_k hid hidden right goes (returning at a tie into y saved lent caller rest st v l q on) =
       let has = argument-has a b.own.vars v q in
@@ -178,9 +179,9 @@ module _ (u : UnitCode) (labels : Labels) (h : Objects Name) where
 
       parts : (first ≡ true) × ((lends ≡ true) × (result ≡ true))
       parts =
-          let p = both first (lends && (result && stack_fits u labels h w z caller st)) stack in
-          let r = both lends (result && stack_fits u labels h w z caller st) p.1 in
-          (p.0, (r.0, (both result (stack_fits u labels h w z caller st) r.1).0))
+          let p = and_parts first (lends && (result && stack_fits u labels h w z caller st)) stack in
+          let r = and_parts lends (result && stack_fits u labels h w z caller st) p.1 in
+          (p.0, (r.0, (and_parts result (stack_fits u labels h w z caller st) r.1).0))
 
       even : length c.vars ≡ length saved
       even = lengths (top_zone w z st) w (calls st) c.vars saved parts.0
@@ -242,7 +243,7 @@ module _ (u : UnitCode) (labels : Labels) (h : Objects Name) where
   fine-length at z m (Leaf b) vs n p e fit stand =
       let is = fine-leaf b vs n p e in
       let held : Bool = variables_fit u labels h (top_zone (at Here) z b.stack) (at Here) (calls b.stack) 0 (context_of u b.own.routine).vars b.own.vars in
-      let vars = both held (stack_fits u labels h (at Here) z b.own.routine b.stack) (sym (ap (λ c. has_end u labels h c || (held && stack_fits u labels h (at Here) z b.own.routine b.stack)) is.close) ∙ fit) in
+      let vars = and_parts held (stack_fits u labels h (at Here) z b.own.routine b.stack) (sym (ap (λ c. has_end u labels h c || (held && stack_fits u labels h (at Here) z b.own.routine b.stack)) is.close) ∙ fit) in
       let routine : b.own.routine ≡ m = eq_true b.own.routine m (ap (λ (st : List (Frame Held)). nat_eq (lowest b.own.routine st) m) (sym is.stack) ∙ (sym (ap (λ c. not (is_open c) || nat_eq (lowest b.own.routine b.stack) m) is.close) ∙ stand)) in
       ap (λ n. length (context_of u n).vars) (sym routine) ∙ lengths (top_zone (at Here) z b.stack) (at Here) (calls b.stack) (context_of u b.own.routine).vars b.own.vars vars.0 ∙ ap length is.vars
 
@@ -284,26 +285,26 @@ module _ (u : UnitCode) (labels : Labels) (h : Objects Name) where
       → Premises ByNothing (hidden_above below b.stack) (λ w. at (GoL w)) (left_zone (mode_in u b.own.routine p) (at (GoL Here)) (top_zone (at Here) z b.stack)) l
   left-premises k below at z b p l r is =
       let hid = hidden_above below b.stack in
-      let f = both (branch_fits u labels h (at Here) z b) (tree_fits u labels h (λ w. at (GoL w)) (left_zone (mode_in u b.own.routine p) (at (GoL Here)) (top_zone (at Here) z b.stack)) l && tree_fits u labels h (λ w. at (GoR w)) (right_zone (mode_in u b.own.routine p) (at (GoR Here)) (top_zone (at Here) z b.stack)) r) is.variables in
+      let f = and_parts (branch_fits u labels h (at Here) z b) (tree_fits u labels h (λ w. at (GoL w)) (left_zone (mode_in u b.own.routine p) (at (GoL Here)) (top_zone (at Here) z b.stack)) l && tree_fits u labels h (λ w. at (GoR w)) (right_zone (mode_in u b.own.routine p) (at (GoR Here)) (top_zone (at Here) z b.stack)) r) is.variables in
       record {
-        variables = (both (tree_fits u labels h (λ w. at (GoL w)) (left_zone (mode_in u b.own.routine p) (at (GoL Here)) (top_zone (at Here) z b.stack)) l) (tree_fits u labels h (λ w. at (GoR w)) (right_zone (mode_in u b.own.routine p) (at (GoR Here)) (top_zone (at Here) z b.stack)) r) f.1).0;
-        stand = (both (sides_stand l) (sides_stand r) (both (stands_in b.own.routine l && stands_in b.own.routine r) (sides_stand l && sides_stand r) is.stand).1).0;
-        ends = (both (tree_ends ByNothing l) (tree_ends ByNothing r) (both (is_open b.close && stack_ends k b.code b.stack) (tree_ends ByNothing l && tree_ends ByNothing r) is.ends).1).0;
-        right = (both (tree_right u l) (tree_right u r) (both (stack_right u b.own.routine b.code b.stack (plus (valued b.own.vars) (plus (mentions_l p) (mentions_r p)))) (tree_right u l && tree_right u r) is.right).1).0;
-        hidden = (both (tree_hidden hid l) (tree_hidden hid r) (both (branch_hidden below b) (tree_hidden hid l && tree_hidden hid r) is.hidden).1).0;
+        variables = (and_parts (tree_fits u labels h (λ w. at (GoL w)) (left_zone (mode_in u b.own.routine p) (at (GoL Here)) (top_zone (at Here) z b.stack)) l) (tree_fits u labels h (λ w. at (GoR w)) (right_zone (mode_in u b.own.routine p) (at (GoR Here)) (top_zone (at Here) z b.stack)) r) f.1).0;
+        stand = (and_parts (sides_stand l) (sides_stand r) (and_parts (stands_in b.own.routine l && stands_in b.own.routine r) (sides_stand l && sides_stand r) is.stand).1).0;
+        ends = (and_parts (tree_ends ByNothing l) (tree_ends ByNothing r) (and_parts (is_open b.close && stack_ends k b.code b.stack) (tree_ends ByNothing l && tree_ends ByNothing r) is.ends).1).0;
+        right = (and_parts (tree_right u l) (tree_right u r) (and_parts (stack_right u b.own.routine b.code b.stack (plus (valued b.own.vars) (plus (mentions_l p) (mentions_r p)))) (tree_right u l && tree_right u r) is.right).1).0;
+        hidden = (and_parts (tree_hidden hid l) (tree_hidden hid r) (and_parts (branch_hidden below b) (tree_hidden hid l && tree_hidden hid r) is.hidden).1).0;
       }
 
   right-premises : (k : Ending) (below : List ℕ) (at : Way → Way) (z : Zone) (b : Branch) (p : Blocks) (l r : Task) → Premises k below at z (Fork b p l r)
       → Premises ByNothing (hidden_above below b.stack) (λ w. at (GoR w)) (right_zone (mode_in u b.own.routine p) (at (GoR Here)) (top_zone (at Here) z b.stack)) r
   right-premises k below at z b p l r is =
       let hid = hidden_above below b.stack in
-      let f = both (branch_fits u labels h (at Here) z b) (tree_fits u labels h (λ w. at (GoL w)) (left_zone (mode_in u b.own.routine p) (at (GoL Here)) (top_zone (at Here) z b.stack)) l && tree_fits u labels h (λ w. at (GoR w)) (right_zone (mode_in u b.own.routine p) (at (GoR Here)) (top_zone (at Here) z b.stack)) r) is.variables in
+      let f = and_parts (branch_fits u labels h (at Here) z b) (tree_fits u labels h (λ w. at (GoL w)) (left_zone (mode_in u b.own.routine p) (at (GoL Here)) (top_zone (at Here) z b.stack)) l && tree_fits u labels h (λ w. at (GoR w)) (right_zone (mode_in u b.own.routine p) (at (GoR Here)) (top_zone (at Here) z b.stack)) r) is.variables in
       record {
-        variables = (both (tree_fits u labels h (λ w. at (GoL w)) (left_zone (mode_in u b.own.routine p) (at (GoL Here)) (top_zone (at Here) z b.stack)) l) (tree_fits u labels h (λ w. at (GoR w)) (right_zone (mode_in u b.own.routine p) (at (GoR Here)) (top_zone (at Here) z b.stack)) r) f.1).1;
-        stand = (both (sides_stand l) (sides_stand r) (both (stands_in b.own.routine l && stands_in b.own.routine r) (sides_stand l && sides_stand r) is.stand).1).1;
-        ends = (both (tree_ends ByNothing l) (tree_ends ByNothing r) (both (is_open b.close && stack_ends k b.code b.stack) (tree_ends ByNothing l && tree_ends ByNothing r) is.ends).1).1;
-        right = (both (tree_right u l) (tree_right u r) (both (stack_right u b.own.routine b.code b.stack (plus (valued b.own.vars) (plus (mentions_l p) (mentions_r p)))) (tree_right u l && tree_right u r) is.right).1).1;
-        hidden = (both (tree_hidden hid l) (tree_hidden hid r) (both (branch_hidden below b) (tree_hidden hid l && tree_hidden hid r) is.hidden).1).1;
+        variables = (and_parts (tree_fits u labels h (λ w. at (GoL w)) (left_zone (mode_in u b.own.routine p) (at (GoL Here)) (top_zone (at Here) z b.stack)) l) (tree_fits u labels h (λ w. at (GoR w)) (right_zone (mode_in u b.own.routine p) (at (GoR Here)) (top_zone (at Here) z b.stack)) r) f.1).1;
+        stand = (and_parts (sides_stand l) (sides_stand r) (and_parts (stands_in b.own.routine l && stands_in b.own.routine r) (sides_stand l && sides_stand r) is.stand).1).1;
+        ends = (and_parts (tree_ends ByNothing l) (tree_ends ByNothing r) (and_parts (is_open b.close && stack_ends k b.code b.stack) (tree_ends ByNothing l && tree_ends ByNothing r) is.ends).1).1;
+        right = (and_parts (tree_right u l) (tree_right u r) (and_parts (stack_right u b.own.routine b.code b.stack (plus (valued b.own.vars) (plus (mentions_l p) (mentions_r p)))) (tree_right u l && tree_right u r) is.right).1).1;
+        hidden = (and_parts (tree_hidden hid l) (tree_hidden hid r) (and_parts (branch_hidden below b) (tree_hidden hid l && tree_hidden hid r) is.hidden).1).1;
       }
 
   failed-goes : {P : Vars → Type 0} (H : Vars) → P H → Further P H
@@ -323,10 +324,10 @@ module _ (u : UnitCode) (labels : Labels) (h : Objects Name) where
       rp = right-premises k below at z b p l r is
 
       stands : (stands_in m l ≡ true) × (stands_in m r ≡ true)
-      stands = both (stands_in m l) (stands_in m r) (both (stands_in m l && stands_in m r) (sides_stand l && sides_stand r) is.stand).0
+      stands = and_parts (stands_in m l) (stands_in m r) (and_parts (stands_in m l && stands_in m r) (sides_stand l && sides_stand r) is.stand).0
 
       none : b.close ≡ None
-      none = closed b.close (both (is_open b.close) (stack_ends k b.code b.stack) (both (is_open b.close && stack_ends k b.code b.stack) (tree_ends ByNothing l && tree_ends ByNothing r) is.ends).0).0
+      none = closed b.close (and_parts (is_open b.close) (stack_ends k b.code b.stack) (and_parts (is_open b.close && stack_ends k b.code b.stack) (tree_ends ByNothing l && tree_ends ByNothing r) is.ends).0).0
         where
           closed : (x : Option (Close Held)) → is_open x ≡ true → x ≡ None
           closed None q = refl
@@ -336,8 +337,8 @@ module _ (u : UnitCode) (labels : Labels) (h : Objects Name) where
       even =
           let held : Bool = variables_fit u labels h (top_zone (at Here) z b.stack) (at Here) (calls b.stack) 0 (context_of u m).vars b.own.vars in
           let stack : Bool = stack_fits u labels h (at Here) z m b.stack in
-          let fit : (has_end u labels h b.close || (held && stack)) ≡ true = (both (branch_fits u labels h (at Here) z b) (tree_fits u labels h (λ w. at (GoL w)) (left_zone (mode_in u b.own.routine p) (at (GoL Here)) (top_zone (at Here) z b.stack)) l && tree_fits u labels h (λ w. at (GoR w)) (right_zone (mode_in u b.own.routine p) (at (GoR Here)) (top_zone (at Here) z b.stack)) r) is.variables).0 in
-          lengths (top_zone (at Here) z b.stack) (at Here) (calls b.stack) (context_of u m).vars b.own.vars (both held stack (sym (ap (λ c. has_end u labels h c || (held && stack)) none) ∙ fit)).0
+          let fit : (has_end u labels h b.close || (held && stack)) ≡ true = (and_parts (branch_fits u labels h (at Here) z b) (tree_fits u labels h (λ w. at (GoL w)) (left_zone (mode_in u b.own.routine p) (at (GoL Here)) (top_zone (at Here) z b.stack)) l && tree_fits u labels h (λ w. at (GoR w)) (right_zone (mode_in u b.own.routine p) (at (GoR Here)) (top_zone (at Here) z b.stack)) r) is.variables).0 in
+          lengths (top_zone (at Here) z b.stack) (at Here) (calls b.stack) (context_of u m).vars b.own.vars (and_parts held stack (sym (ap (λ c. has_end u labels h c || (held && stack)) none) ∙ fit)).0
 
       go : (x y : Final Held) → final l ≡ Some x → final r ≡ Some y → Further (λ L. TreeGoes u below (resumed (core u) b (join_of (core u) b p x y)) L) H
       go (Fine ls t q) (Fine rs n s) i j =
@@ -364,9 +365,9 @@ module _ (u : UnitCode) (labels : Labels) (h : Objects Name) where
       let m = b.own.routine in
       let held : Bool = variables_fit u labels h (top_zone (at Here) z b.stack) (at Here) (calls b.stack) 0 (context_of u m).vars b.own.vars in
       let stack : Bool = stack_fits u labels h (at Here) z m b.stack in
-      let f = both held stack (sym (ap (λ c. has_end u labels h c || (held && stack)) open_) ∙ is.variables) in
-      let hid = both (none_valued (hidden_above below b.stack) b.own.vars) (stack_hidden below b.code b.stack) is.hidden in
-      let ending_k = (both (is_settled b.code b.stack) (stack_ends k b.code b.stack) (sym (ap (λ c. branch_ends k c b.code b.stack) open_) ∙ is.ends)).1 in
+      let f = and_parts held stack (sym (ap (λ c. has_end u labels h c || (held && stack)) open_) ∙ is.variables) in
+      let hid = and_parts (none_valued (hidden_above below b.stack) b.own.vars) (stack_hidden below b.code b.stack) is.hidden in
+      let ending_k = (and_parts (is_settled b.code b.stack) (stack_ends k b.code b.stack) (sym (ap (λ c. branch_ends k c b.code b.stack) open_) ∙ is.ends)).1 in
       subst (λ (e : Task). GoesOn k (λ L. TreeGoes u below e L) H) (sym same_as)
       (turn-goes accepted z (at Here) below k b t x b.code b.stack o d H refl (answers x q) f.0 f.1 ending_k hid.0 hid.1 is.right (unfailed u below b H t due goes) turn)
   keeps-goes accepted o v answers k below at z H _ _ after is goes (joining b p l r x y _ q left right same_as) =

@@ -1,7 +1,7 @@
 -- After a call begins or ends, a recover block is entered or left, and a par begins or ends, the code to come goes on from what has a value then.
 use Rattle.std.proofs.Common.{◌≡◌, ℕ, zero, suc, ◌+◌, ◌<◌, Bool, true, false, Option, Some, None, List, [], ◌∷◌, ◌++◌, length, refl, sym, ap, subst, ◌∙◌, arith, inl, inr}
 use Rattle.std.specs.Prelude.{◌⊎◌, ◌&&◌, ◌||◌, not, nat_eq, cond}
-use Rattle.std.proofs.lemmas.Bool.{or_cases, or_parts, or_left, or_right}
+use Rattle.std.proofs.lemmas.Bool.{or_cases, or_parts, or_left, or_right, and_parts}
 use Rattle.std.proofs.lemmas.List.{append_assoc}
 use Rattle.perm_tree.specs.declared.ast.Span.{Span}
 use Rattle.perm_tree.specs.declared.errors.TypeKind.TheVariants.{ParShared}
@@ -29,7 +29,7 @@ use Rattle.perm_meaning.specs.Effects.{first_vars}
 use Rattle.perm_meaning.specs.Machine.{Frame, OpenRecover, OpenCall, Blocks, Splits, done}
 use Rattle.perm_meaning.specs.NamedHeap.{Held, Own, Branch}
 use Rattle.perm_meaning.specs.Turns.{blocks, lent_back}
-use Rattle.perm_meaning.proofs.SameName.{both, together, eq_itself, eq_true}
+use Rattle.perm_meaning.proofs.SameName.{together, eq_itself, eq_true}
 use Rattle.perm_core.specs.Core.{core}
 use Rattle.perm_core.specs.Picture.{context_if, context_of, valued, hidden_above, just_lent, just_taken, live_after, context_above, none_valued, only_valued, RestGoes, live_joined, TreeGoes}
 use Rattle.perm_core.proofs.OpeningPicture.{derived}
@@ -50,7 +50,7 @@ from-changed : (s : Effect) (G : Vars) (x : ℕ) → changed s G x ≡ true → 
 from-changed s G x e = pick (or_cases (G x && not (s.lost x)) (s.made x) e)
   where
     pick : (G x && not (s.lost x) ≡ true) ⊎ (s.made x ≡ true) → ((G x ≡ true) × (not (s.lost x) ≡ true)) ⊎ (s.made x ≡ true)
-    pick (inl q) = inl (both (G x) (not (s.lost x)) q)
+    pick (inl q) = inl (and_parts (G x) (not (s.lost x)) q)
     pick (inr q) = inr q
 
 to-changed : (s : Effect) (G : Vars) (x : ℕ) → ((G x ≡ true) × (not (s.lost x) ≡ true)) ⊎ (s.made x ≡ true) → changed s G x ≡ true
@@ -78,7 +78,7 @@ module _ (u : UnitCode) where
       (r.0, λ x m. let p = minus-both (valued l.vars) (just y) (arguments_consume args) x m in r.1 x (together (valued (clear tagged l.vars y) x) (not (arguments_consume args x)) (clear-has l.vars y x p.0) p.1))
   receives-has l _ _ _ _ _ _ (last y args this found vs is here) =
       let r = evaluates-has args l.vars found vs is in
-      (r.0, λ x m. let p = minus-both (valued l.vars) none (arguments_consume args) x m in r.1 x (together (valued l.vars x) (not (arguments_consume args x)) (both (valued l.vars x) (not (none x)) p.0).0 p.1))
+      (r.0, λ x m. let p = minus-both (valued l.vars) none (arguments_consume args) x m in r.1 x (together (valued l.vars x) (not (arguments_consume args x)) (and_parts (valued l.vars x) (not (none x)) p.0).0 p.1))
 
   -- what the caller has, and what comes back, holds what is live after the call
   kept-has : (tie : Tie) (y : ℕ) (vs : List Held) (this : Held) (x : ℕ) → valued vs x ≡ true → plus (valued (while_called tagged Moves tie y vs)) (just_lent (lent_by Moves tie this) y) x ≡ true
@@ -212,7 +212,7 @@ module _ (u : UnitCode) where
       fewer = goes-fewer (hiding hides k) body U K (those hides) (hidden-free (those hides) (hiding hides k) body U K (λ y e. any-left y hides k.hidden e) t.goes.2) t.goes.2
 
       rest_has : IsWithin (minus U (those hides)) V
-      rest_has y e = let p = both (U y) (not (those hides y)) e in only-has (λ y. not (those hides y)) vs y (together (not (those hides y)) (U y) p.1 p.0)
+      rest_has y e = let p = and_parts (U y) (not (those hides y)) e in only-has (λ y. not (those hides y)) vs y (together (not (those hides y)) (U y) p.1 p.0)
 
       inside : (L : Vars) × Goes (hiding hides k) body V L
       inside = let o = monotone (hiding hides k) body (minus U (those hides)) fewer.ends V rest_has fewer.goes in (o.0, o.1)
@@ -220,7 +220,7 @@ module _ (u : UnitCode) where
       -- what is live at the block's end is live without the hidden ones, or is laid by
       enough : IsWithin (minus K (those own)) (plus (minus inside.0 (those own)) (valued saved))
       enough y e =
-          let p = both (K y) (not (those own y)) e in
+          let p = and_parts (K y) (not (those own y)) e in
           pick (from-changed (effect body) U y (subst (λ (G : Vars). G y ≡ true) (ends-by (hiding hides k) body U K t.goes.2) p.0)) p.1
         where
           stays : ((V y ≡ true) × (not ((effect body).lost y) ≡ true)) ⊎ ((effect body).made y ≡ true) → not (those own y) ≡ true → plus (minus inside.0 (those own)) (valued saved) y ≡ true
@@ -277,11 +277,11 @@ module _ (u : UnitCode) where
               (clear_all-has own (clear tagged vs y) z (together (valued (clear tagged vs y) z) (not (those own z)) (clear-has vs y z (together (U z) (not (nat_eq z y)) live other)) off)))
 
           by_part : not (those own z) ≡ true → (minus U (just y) z ≡ true) ⊎ (just x z ≡ true) → valued (assign either x v) z ≡ true
-          by_part off (inl q) = let p = both (U z) (not (nat_eq z y)) q in by_hides p.0 p.1 off (test (those hides z))
+          by_part off (inl q) = let p = and_parts (U z) (not (nat_eq z y)) q in by_hides p.0 p.1 off (test (those hides z))
           by_part off (inr q) = assign-has either x v a there value z (or_right (valued either z) (just x z) q)
 
           pick : (minus goes.0 (those own) z ≡ true) ⊎ (valued saved z ≡ true) → valued (assign either x v) z ≡ true
-          pick (inl q) = let p = both (goes.0 z) (not (those own z)) q in by_part p.1 (or_cases (minus U (just y) z) (just x z) (subst (λ (G : Vars). G z ≡ true) goes.1.1 p.0))
+          pick (inl q) = let p = and_parts (goes.0 z) (not (those own z)) q in by_part p.1 (or_cases (minus U (just y) z) (just x z) (subst (λ (G : Vars). G z ≡ true) goes.1.1 p.0))
           pick (inr q) = let h = has-of saved z q in old z (either-first (those hides) saved ws z lengths (only-hidden hides saved z h.0 only_hid h.1) q)
 
   -- ---------- pars ----------
@@ -295,7 +295,7 @@ module _ (u : UnitCode) where
     where
       given : IsWithin (minus (valued vs) (minus (valued vs) (mentioned a))) (valued (only tagged (block_mentions own a) vs))
       given x e =
-          let p = both (valued vs x) (not (minus (valued vs) (mentioned a) x)) e in
+          let p = and_parts (valued vs x) (not (minus (valued vs) (mentioned a) x)) e in
           only-has (block_mentions own a) vs x (together (block_mentions own a x) (valued vs x) (together (mentioned a x) (not (those own x)) (stands (mentioned a x) p.0 p.1) (not_own (those own x) refl p.0)) p.0)
         where
           stands : (m : Bool) → valued vs x ≡ true → not (valued vs x && not m) ≡ true → m ≡ true
@@ -314,7 +314,7 @@ module _ (u : UnitCode) where
   -- what one block writes doesn't stand in the other
   shared : (k : Context) (own1 : List ℕ) (a : Code) (own2 : List ℕ) (d : Code) (G B : Vars) → IsAllowed k (par_head k own1 a own2 d) G → Goes k d G B → (x : ℕ) → block_writes own1 a x ≡ true → block_mentions own2 d x ≡ true → ⊥
   shared k own1 a own2 d G B allowed goes x w m =
-      let known : x < length k.vars = known_code k d G ((agree k d G).fine B goes) x (both (mentioned d x) (not (those own2 x)) m).0 in
+      let known : x < length k.vars = known_code k d G ((agree k d G).fine B goes) x (and_parts (mentioned d x) (not (those own2 x)) m).0 in
       let apart = or_parts (some_var k (meet (touches k own1 a) (uses k own2 d))) _ (applies-none k (par_head k own1 a own2 d) G allowed ParShared) in
       let none : meet (touches k own1 a) (uses k own2 d) x ≡ false = nothing-below (length k.vars) (meet (touches k own1 a) (uses k own2 d)) x known apart.0 in
       let inside : below (length k.vars) x ≡ true = below-less (length k.vars) x known in
@@ -387,8 +387,8 @@ module _ (u : UnitCode) where
       -- what a block makes live it writes
       makes : (own : List ℕ) (e : Code) (E : Vars) → Goes k e U E → (x : ℕ) → minus (minus E (those own)) U x ≡ true → (block_writes own e x ≡ true) × ((effect e).made x ≡ true)
       makes own e E from x q =
-          let s = both (minus E (those own) x) (not (U x)) q in
-          let r = both (E x) (not (those own x)) s.0 in
+          let s = and_parts (minus E (those own) x) (not (U x)) q in
+          let r = and_parts (E x) (not (those own x)) s.0 in
           pick (from-changed (effect e) U x (subst (λ (G : Vars). G x ≡ true) (ends-by k e U E from) r.0)) s.1 r.1
         where
           pick : ((U x ≡ true) × (not ((effect e).lost x) ≡ true)) ⊎ ((effect e).made x ≡ true) → not (U x) ≡ true → not (those own x) ≡ true → (block_writes own e x ≡ true) × ((effect e).made x ≡ true)
@@ -404,7 +404,7 @@ module _ (u : UnitCode) where
         where
           pick : (W x ≡ true) ⊎ (isolated_in u m x && N x ≡ true) → N x ≡ true
           pick (inl q) = less x q
-          pick (inr q) = (both (isolated_in u m x) (N x) q).1
+          pick (inr q) = (and_parts (isolated_in u m x) (N x) q).1
 
       A' : Vars
       A' = minus A (those own1)
@@ -444,12 +444,12 @@ module _ (u : UnitCode) where
           value r l q s e = ap (λ t. cond t (right_side.0 x) (cond (back_l u m p x) (left_side.0 x) (kept x))) q ∙ ap (λ t. cond r (right_side.0 x) (cond t (left_side.0 x) (kept x))) s ∙ e
 
           on_right : back_r u m p x ≡ true → Where x → right_side.0 x ≡ true
-          on_right r (inl (g, (f, h))) = through own2 d B right_side.0 goes_d right_side.1 x (back-stands (block_writes own2 d) (block_mentions own2 d) (block_writes-within own2 d) x r) (both (B x) (not (those own2 x)) h).0
+          on_right r (inl (g, (f, h))) = through own2 d B right_side.0 goes_d right_side.1 x (back-stands (block_writes own2 d) (block_mentions own2 d) (block_writes-within own2 d) x r) (and_parts (B x) (not (those own2 x)) h).0
           on_right r (inr (inl q)) = absurd (shared k own1 a own2 d U B top_on.goes.0 goes_d x (makes own1 a A goes_a x q).0 (back-stands (block_writes own2 d) (block_mentions own2 d) (block_writes-within own2 d) x r))
           on_right r (inr (inr q)) = made-in own2 d right_side.0 _ right_side.1 x (makes own2 d B goes_d x q).1
 
           on_left : back_r u m p x ≡ false → back_l u m p x ≡ true → Where x → left_side.0 x ≡ true
-          on_left r l (inl (g, (f, h))) = through own1 a A left_side.0 goes_a left_side.1 x (back-stands (block_writes own1 a) (block_mentions own1 a) (block_writes-within own1 a) x l) (both (A x) (not (those own1 x)) f).0
+          on_left r l (inl (g, (f, h))) = through own1 a A left_side.0 goes_a left_side.1 x (back-stands (block_writes own1 a) (block_mentions own1 a) (block_writes-within own1 a) x l) (and_parts (A x) (not (those own1 x)) f).0
           on_left r l (inr (inl q)) = made-in own1 a left_side.0 _ left_side.1 x (makes own1 a A goes_a x q).1
           on_left r l (inr (inr q)) = absurd (clash (right-back x (makes own2 d B goes_d x q).0) r)
 

@@ -1,6 +1,7 @@
 -- Variables and objects fit in another heap too, and under other labels, where what is there keeps its shape and its label.
 use Rattle.std.proofs.Common.{◌≡◌, ℕ, suc, Bool, true, false, Option, Some, None, List, [], ◌∷◌, refl, sym, ap, subst, ◌∙◌}
 use Rattle.std.specs.Prelude.{◌&&◌, ◌||◌, not}
+use Rattle.std.proofs.lemmas.Bool.{and_parts}
 use Rattle.perm_tree.specs.declared.ast.Perm.{Perm}
 use Rattle.perm_tree.specs.declared.ast.Shape.{Shape}
 use Rattle.perm_tree.specs.declared.ast.Shape.TheVariants.{Class, Array}
@@ -15,7 +16,7 @@ use Rattle.perm_meaning.specs.Objects.{Object, Objects, size, new_object, with_f
 use Rattle.perm_meaning.specs.Effects.{Tick, Load, Store, Take, Make}
 use Rattle.perm_meaning.specs.Machine.{Frame, OpenBlock, OpenRecover, OpenCall, Close, Leaf, Fork, Way, Here, GoL, GoR}
 use Rattle.perm_meaning.specs.NamedHeap.{Held, Heap, Op, Branch, Task, has_room, stored, allocated, after}
-use Rattle.perm_meaning.proofs.SameName.{both, together, name_true}
+use Rattle.perm_meaning.proofs.SameName.{together, name_true}
 use Rattle.perm_core.specs.Regions.{Zone, Base, OwnOf, OfVariable, OfField, Labels, same_region, is_absent, var_may_lead, field_may_lead, calls, zones, top_zone, left_zone, right_zone}
 use Rattle.perm_core.specs.Picture.{context_of, mode_in, length_fits, has_shape, value_fits, variable_fits, variables_fit, lent_right, lent_fits, result_fits, stack_fits, has_end, branch_fits, tree_fits, fields_fit, class_fits, values_fit, object_fits}
 use Rattle.perm_core.proofs.KeepsPicture.CallEnds.{set-length}
@@ -31,7 +32,7 @@ module _ (u : UnitCode) (labels labels' : Labels) (h h' : Objects Name) (kept : 
   value-more test test' Boolean (Truth b) f e = refl
   value-more test test' (Ref p k) Null f e = refl
   value-more test test' (Ref p k) (Reference n len) f e =
-      let x = both (has_shape (h n) k len) (test p n) e in
+      let x = and_parts (has_shape (h n) k len) (test p n) e in
       let s = kept n k len x.0 in
       together (has_shape (h' n) k len) (test' p n) s.0 (f p n s.1 x.1)
   value-more test test' Long (Truth b) f e = absurd (let no : ⊥ = cc e in no)
@@ -53,7 +54,7 @@ module _ (u : UnitCode) (labels labels' : Labels) (h h' : Objects Name) (kept : 
   variables-more z w k x [] (v ∷ vs) e = absurd (let no : ⊥ = cc e in no)
   variables-more z w k x (t ∷ ts) [] e = absurd (let no : ⊥ = cc e in no)
   variables-more z w k x (t ∷ ts) (v ∷ vs) e =
-      let p = both (variable_fits u labels h z w k x t v) (variables_fit u labels h z w k (suc x) ts vs) e in
+      let p = and_parts (variable_fits u labels h z w k x t v) (variables_fit u labels h z w k (suc x) ts vs) e in
       together (variable_fits u labels' h' z w k x t v) (variables_fit u labels' h' z w k (suc x) ts vs) (one v p.0) (variables-more z w k (suc x) ts vs p.1)
     where
       one : (v : Held) → variable_fits u labels h z w k x t v ≡ true → variable_fits u labels' h' z w k x t v ≡ true
@@ -66,11 +67,11 @@ module _ (u : UnitCode) (labels labels' : Labels) (h h' : Objects Name) (kept : 
   lent-more z Shares t (Some v) e = absurd (let no : ⊥ = cc e in no)
   lent-more z Raises t (Some v) e = absurd (let no : ⊥ = cc e in no)
   lent-more z Lends None (Some v) e = absurd (let no : ⊥ = cc e in no)
-  lent-more z Lends (Some t) (Some None) e = absurd (let q = (both (lent_right u labels h Lends (Some t) (Some None)) false e).1 in let no : ⊥ = cc q in no)
+  lent-more z Lends (Some t) (Some None) e = absurd (let q = (and_parts (lent_right u labels h Lends (Some t) (Some None)) false e).1 in let no : ⊥ = cc q in no)
   lent-more z Lends (Some t) (Some (Some a)) e =
       let old : Bool = value_fits h (λ p n. same_region (labels n) (OwnOf z)) t a in
       let new : Bool = value_fits h' (λ p n. same_region (labels' n) (OwnOf z)) t a in
-      let p = both (lent_right u labels h Lends (Some t) (Some (Some a))) old e in
+      let p = and_parts (lent_right u labels h Lends (Some t) (Some (Some a))) old e in
       together (lent_right u labels' h' Lends (Some t) (Some (Some a))) new p.0
       (value-more (λ p n. same_region (labels n) (OwnOf z)) (λ p n. same_region (labels' n) (OwnOf z)) t a (λ p n same q. subst (λ r. same_region r (OwnOf z) ≡ true) (sym same) q) p.1)
 
@@ -87,7 +88,7 @@ module _ (u : UnitCode) (labels labels' : Labels) (h h' : Objects Name) (kept : 
   stack-more w z m (OpenBlock own rest ∷ st) e = stack-more w z m st e
   stack-more w z m (OpenRecover own hides saved rest ∷ st) e =
       let ts = (context_of u m).vars in
-      let p = both (variables_fit u labels h (top_zone w z st) w (calls st) 0 ts saved) (stack_fits u labels h w z m st) e in
+      let p = and_parts (variables_fit u labels h (top_zone w z st) w (calls st) 0 ts saved) (stack_fits u labels h w z m st) e in
       together (variables_fit u labels' h' (top_zone w z st) w (calls st) 0 ts saved) (stack_fits u labels' h' w z m st) (variables-more (top_zone w z st) w (calls st) 0 ts saved p.0) (stack-more w z m st p.1)
   stack-more w z m (OpenCall tie into y saved lent caller rest ∷ st) e =
       let ts = (context_of u caller).vars in
@@ -97,9 +98,9 @@ module _ (u : UnitCode) (labels labels' : Labels) (h h' : Objects Name) (kept : 
       let lends' = lent_right u labels' h' tie t lent && lent_fits u labels' h' inner t lent in
       let result = result_fits u labels h tie (context_of u m).result into caller in
       let result' = result_fits u labels' h' tie (context_of u m).result into caller in
-      let p = both (variables_fit u labels h (top_zone w z st) w (calls st) 0 ts saved) (lends && (result && stack_fits u labels h w z caller st)) e in
-      let q = both lends (result && stack_fits u labels h w z caller st) p.1 in
-      let r = both result (stack_fits u labels h w z caller st) q.1 in
+      let p = and_parts (variables_fit u labels h (top_zone w z st) w (calls st) 0 ts saved) (lends && (result && stack_fits u labels h w z caller st)) e in
+      let q = and_parts lends (result && stack_fits u labels h w z caller st) p.1 in
+      let r = and_parts result (stack_fits u labels h w z caller st) q.1 in
       together (variables_fit u labels' h' (top_zone w z st) w (calls st) 0 ts saved) (lends' && (result' && stack_fits u labels' h' w z caller st)) (variables-more (top_zone w z st) w (calls st) 0 ts saved p.0)
       (together lends' (result' && stack_fits u labels' h' w z caller st) (lent-more inner tie t lent q.0) (together result' (stack_fits u labels' h' w z caller st) (same-result tie (context_of u m).result into caller r.0) (stack-more w z caller st r.1)))
 
@@ -116,7 +117,7 @@ module _ (u : UnitCode) (labels labels' : Labels) (h h' : Objects Name) (kept : 
       go : (c : Option (Close Held)) → (has_end u labels h c || (held && stack_fits u labels h w z b.own.routine b.stack)) ≡ true → (has_end u labels' h' c || (held' && stack_fits u labels' h' w z b.own.routine b.stack)) ≡ true
       go (Some c) e = refl
       go None e =
-          let p = both held (stack_fits u labels h w z b.own.routine b.stack) e in
+          let p = and_parts held (stack_fits u labels h w z b.own.routine b.stack) e in
           together held' (stack_fits u labels' h' w z b.own.routine b.stack) (variables-more (top_zone w z b.stack) w (calls b.stack) 0 (context_of u b.own.routine).vars b.own.vars p.0) (stack-more w z b.own.routine b.stack p.1)
 
   pub tree-more : (at : Way → Way) (z : Zone) (t : Task) → tree_fits u labels h at z t ≡ true → tree_fits u labels' h' at z t ≡ true
@@ -128,8 +129,8 @@ module _ (u : UnitCode) (labels labels' : Labels) (h h' : Objects Name) (kept : 
       let right = tree_fits u labels h (λ w. at (GoR w)) (right_zone m (at (GoR Here)) top) r in
       let left' = tree_fits u labels' h' (λ w. at (GoL w)) (left_zone m (at (GoL Here)) top) l in
       let right' = tree_fits u labels' h' (λ w. at (GoR w)) (right_zone m (at (GoR Here)) top) r in
-      let x = both (branch_fits u labels h (at Here) z b) (left && right) e in
-      let y = both left right x.1 in
+      let x = and_parts (branch_fits u labels h (at Here) z b) (left && right) e in
+      let y = and_parts left right x.1 in
       together (branch_fits u labels' h' (at Here) z b) (left' && right') (branch-more (at Here) z b x.0)
       (together left' right' (tree-more (λ w. at (GoL w)) (left_zone m (at (GoL Here)) top) l y.0) (tree-more (λ w. at (GoR w)) (right_zone m (at (GoR Here)) top) r y.1))
 
@@ -144,13 +145,13 @@ module _ (u : UnitCode) (labels labels' : Labels) (h h' : Objects Name) (kept : 
   fields-more o f [] (v ∷ vs) home e = absurd (let no : ⊥ = cc e in no)
   fields-more o f (t ∷ ts) [] home e = absurd (let no : ⊥ = cc e in no)
   fields-more o f (t ∷ ts) (v ∷ vs) home e =
-      let p = both (value_fits h (λ p n. field_may_lead p (OfField o f) (labels o) (labels n)) t v) (fields_fit u labels h o (suc f) ts vs) e in
+      let p = and_parts (value_fits h (λ p n. field_may_lead p (OfField o f) (labels o) (labels n)) t v) (fields_fit u labels h o (suc f) ts vs) e in
       together (value_fits h' (λ p n. field_may_lead p (OfField o f) (labels' o) (labels' n)) t v) (fields_fit u labels' h' o (suc f) ts vs) (field-more o f t v home p.0) (fields-more o (suc f) ts vs home p.1)
 
   -- an object that keeps its values
   pub object-more : (o : Name) (x : Object Name) → labels' o ≡ labels o → object_fits u labels h o (Some x) ≡ true → object_fits u labels' h' o (Some x) ≡ true
   object-more o x home e =
-      let p = both (not (is_absent (labels o))) (values_fit u labels h o x.shape x.values) e in
+      let p = and_parts (not (is_absent (labels o))) (values_fit u labels h o x.shape x.values) e in
       together (not (is_absent (labels' o))) (values_fit u labels' h' o x.shape x.values) (subst (λ r. not (is_absent r) ≡ true) (sym home) p.0) (shaped x.shape p.1)
     where
       classed : (ts : Option (List Ty)) → class_fits u labels h o ts x.values ≡ true → class_fits u labels' h' o ts x.values ≡ true

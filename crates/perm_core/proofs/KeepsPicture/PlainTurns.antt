@@ -1,6 +1,7 @@
 -- Turns that change no label: a branch that fails or ends, that enters or leaves a block or a loop, that enters a recover block, that declares, or that prints. Its variables fit after it.
 use Rattle.std.proofs.Common.{◌≡◌, ℕ, suc, Bool, true, false, Some, List, [], ◌∷◌, length, refl, sym, ap, subst, ◌∙◌}
 use Rattle.std.specs.Prelude.{◌&&◌, ◌||◌, not, slice_get}
+use Rattle.std.proofs.lemmas.Bool.{and_parts}
 use Rattle.perm_tree.specs.declared.ast.Perm.{Perm}
 use Rattle.perm_tree.specs.declared.ast.Perm.TheVariants.{Isolated, Immutable, Readable, Writable}
 use Rattle.perm_tree.specs.declared.ast.Shape.{Shape}
@@ -21,7 +22,7 @@ use Rattle.perm_meaning.specs.Expressions.{tagged, clear, clear_all}
 use Rattle.perm_meaning.specs.Custody.{only}
 use Rattle.perm_meaning.specs.Machine.{Frame, OpenBlock, OpenRecover, OpenCall, Way, Here, Did, On, settled, done}
 use Rattle.perm_meaning.specs.NamedHeap.{Held, Op, Own, Branch}
-use Rattle.perm_meaning.proofs.SameName.{both, together}
+use Rattle.perm_meaning.proofs.SameName.{together}
 use Rattle.perm_core.specs.Core.{core}
 use Rattle.perm_core.specs.Marked.{calls_right}
 use Rattle.perm_core.specs.Regions.{Zone, Base, Region, OfVariable, Labels, var_may_lead, calls, zones, top_zone}
@@ -120,10 +121,10 @@ module _ (u : UnitCode) (labels : Labels) (h : Objects Name) where
 
       tied : hides_tied c (plus U N) hides ≡ true
       tied =
-          let p = both (calls_right c (Recover at x own hides body rest)) (is_scoped c (Recover at x own hides body rest) U) (top-right u m (Recover at x own hides body rest) st U right) in
-          let q = both (given body x && (has_none (plus U (those hides)) own && hides_tied c (plus U N) hides)) (is_scoped c body (plus U (those hides)) && is_scoped c rest (plus (just x) (plus U N))) p.1 in
-          let r = both (given body x) (has_none (plus U (those hides)) own && hides_tied c (plus U N) hides) q.0 in
-          (both (has_none (plus U (those hides)) own) (hides_tied c (plus U N) hides) r.1).1
+          let p = and_parts (calls_right c (Recover at x own hides body rest)) (is_scoped c (Recover at x own hides body rest) U) (top-right u m (Recover at x own hides body rest) st U right) in
+          let q = and_parts (given body x && (has_none (plus U (those hides)) own && hides_tied c (plus U N) hides)) (is_scoped c body (plus U (those hides)) && is_scoped c rest (plus (just x) (plus U N))) p.1 in
+          let r = and_parts (given body x) (has_none (plus U (those hides)) own && hides_tied c (plus U N) hides) q.0 in
+          (and_parts (has_none (plus U (those hides)) own) (hides_tied c (plus U N) hides) r.1).1
 
       before : AllFit u labels h (top_zone w z st) w (calls st) c.vars vs
       before = to-all u labels h (top_zone w z st) w (calls st) c.vars vs vars

@@ -1,6 +1,7 @@
 -- A call returns: the caller and the objects fit after it, however the call was tied.
 use Rattle.std.proofs.Common.{◌≡◌, ℕ, suc, ◌<◌, Bool, true, false, Option, Some, None, List, ◌∷◌, refl, sym, ap, subst, ◌∙◌, le_refl, inl, inr}
 use Rattle.std.specs.Prelude.{◌⊎◌, ◌&&◌, slice_get}
+use Rattle.std.proofs.lemmas.Bool.{and_parts}
 use Rattle.perm_tree.specs.declared.ast.Span.{Span}
 use Rattle.perm_tree.specs.declared.ast.Ty.{Ty}
 use Rattle.perm_tree.specs.declared.errors.TypeKind.TheVariants.{WrongKind, Gone, NeedsConsume, PermissionTooWeak}
@@ -17,7 +18,6 @@ use Rattle.perm_meaning.specs.Expressions.{tagged, assign_into, value_of, clear}
 use Rattle.perm_meaning.specs.Machine.{Frame, OpenCall, Way, Here, On, done}
 use Rattle.perm_meaning.specs.NamedHeap.{Held, Own, Branch}
 use Rattle.perm_meaning.specs.Turns.{lent_back}
-use Rattle.perm_meaning.proofs.SameName.{both}
 use Rattle.perm_core.specs.Core.{core}
 use Rattle.perm_core.specs.Regions.{Zone, Base, Region, OwnOf, OfVariable, Labels, is_absent, var_may_lead, calls, zones, top_zone}
 use Rattle.perm_core.specs.Picture.{context_of, value_fits, variables_fit, lent_right, lent_fits, result_fits, stack_fits, tree_fits, object_fits, valued, hidden_above, context_above, RestGoes, none_valued, just_lent, just_taken, stack_hidden}
@@ -130,9 +130,9 @@ module _ (u : UnitCode) (labels : Labels) (h : Objects Name) (at : Way → Way) 
 
   parts : Parts
   parts =
-      let p = both kept (lends && (result && lower)) carried in
-      let q = both lends (result && lower) p.1 in
-      let r = both result lower q.1 in
+      let p = and_parts kept (lends && (result && lower)) carried in
+      let q = and_parts lends (result && lower) p.1 in
+      let r = and_parts result lower q.1 in
       record { kept_fit = p.0; lends_fit = q.0; result_fit = r.0; lower_fit = r.1 }
 
   abbrev after : Labels
@@ -156,7 +156,7 @@ module _ (u : UnitCode) (labels : Labels) (h : Objects Name) (at : Way → Way) 
       (returns.caller-fits u consumed h (at Here) z st low tie into y saved lent caller c.result comes.0 parts.kept_fit parts.lends_fit parts.result_fit (came tie refl)))
 
   below_hid : stack_hidden below rest st ≡ true
-  below_hid = (both (none_valued (hidden_above below st) saved && has_none (plus (just_lent lent y) (just_taken into)) (hidden_above below st)) (stack_hidden below rest st) hid).1
+  below_hid = (and_parts (none_valued (hidden_above below st) saved && has_none (plus (just_lent lent y) (just_taken into)) (hidden_above below st)) (stack_hidden below rest st) hid).1
 
   new-stack : stack_fits u gave_back h (at Here) z caller st ≡ true
   new-stack =

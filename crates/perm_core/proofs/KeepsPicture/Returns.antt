@@ -1,6 +1,7 @@
 -- The end of a call, whatever its tie: the variables and the stack of its caller fit the labels after it.
 use Rattle.std.proofs.Common.{◌≡◌, ℕ, suc, Bool, true, false, Option, Some, None, List, length, refl, sym, ap, subst, ◌∙◌, inl, inr, arith}
 use Rattle.std.specs.Prelude.{◌⊎◌, ◌&&◌, not, slice_get}
+use Rattle.std.proofs.lemmas.Bool.{and_parts}
 use Rattle.perm_tree.specs.declared.ast.Perm.{Perm}
 use Rattle.perm_tree.specs.declared.ast.Perm.TheVariants.{Isolated, Immutable, Readable, Writable}
 use Rattle.perm_tree.specs.declared.ast.Shape.{Shape}
@@ -22,7 +23,7 @@ use Rattle.perm_meaning.specs.Expressions.{assign_into}
 use Rattle.perm_meaning.specs.Turns.{lent_back}
 use Rattle.perm_meaning.specs.Machine.{Frame, Way}
 use Rattle.perm_meaning.specs.NamedHeap.{Held}
-use Rattle.perm_meaning.proofs.SameName.{both, together, eq_true, eq_itself}
+use Rattle.perm_meaning.proofs.SameName.{together, eq_true, eq_itself}
 use Rattle.perm_meaning.proofs.Leads.{some_inj, none_some}
 use Rattle.perm_core.specs.Regions.{Zone, Base, Region, OwnOf, OfVariable, Labels, same_region, is_absent, var_may_lead, calls, zones, top_zone}
 use Rattle.perm_core.specs.Picture.{context_of, has_shape, value_fits, variables_fit, lent_right, lent_fits, result_fits, stack_fits, stack_hidden, object_fits}
@@ -45,7 +46,7 @@ module _ (h : Objects Name) (test test' : Perm → Name → Bool) where
   value-into p q s t (Number n) e f k = absurd (cc)
   value-into p q s t (Truth b) e f k = absurd (cc)
   value-into p q s t (Reference n len) e f k =
-      let x = both (has_shape (h n) s len) (test p n) k in
+      let x = and_parts (has_shape (h n) s len) (test p n) k in
       together (has_shape (h n) t len) (test' q n) (ap (λ s. has_shape (h n) s len) (sym (shape-true s t e)) ∙ x.0) (f n x.1)
 
   pub plain-into : (t : Ty) (v : Value Name) → fits Long t ≡ true → value_fits h test Long v ≡ true → value_fits h test' t v ≡ true
@@ -138,15 +139,15 @@ module _ (u : UnitCode) (labels : Labels) (h : Objects Name) (w : Way) (z : Zone
   result-comes Lends y x (Ref p a) Long v e k = absurd (let no : false ≡ true = e.1 in cc)
   result-comes Lends y x (Ref p a) Boolean v e k = absurd (let no : false ≡ true = e.1 in cc)
   result-comes Shares y x (Ref p a) (Ref q b) v e k =
-      let d = both (same_shape a b) (is_at_most p q) e in
+      let d = and_parts (same_shape a b) (is_at_most p q) e in
       value-into h (λ p n. var_may_lead p (goal q (OfVariable w k0 x) (OwnOf zout)) zout (labels n)) (λ p n. var_may_lead p (OfVariable w k0 x) zout (labels n)) p q a b v d.0 (λ n f. weaker p q (OfVariable w k0 x) zout (labels n) d.1 f) k
   result-comes Raises y x (Ref p a) (Ref q b) v e k =
-      let d = both (same_shape a b) (is_at_most (raised p) q) e in
+      let d = and_parts (same_shape a b) (is_at_most (raised p) q) e in
       value-into h (λ p n. var_may_lead p (goal q (OfVariable w k0 x) (OwnOf zout)) (Base w (suc j0)) (labels n))
       (λ r n. var_may_lead r (OfVariable w k0 x) zout (renamed (Ends w (suc j0) (ended_to (Some p) (goal q (OfVariable w k0 x) (OwnOf zout)))) (labels n))) p q a b v d.0
       (λ n f. raised-leads w j0 p q a k0 x zout (labels n) out d.1 f) k
   result-comes Lends y x (Ref p a) (Ref q b) v e k =
-      let d = both (same_shape a b) (is_at_most p q) e.1 in
+      let d = and_parts (same_shape a b) (is_at_most p q) e.1 in
       value-into h (λ p n. var_may_lead p (goal q (OfVariable w k0 x) (OwnOf zout)) (Base w (suc j0)) (labels n))
       (λ r n. var_may_lead r (OfVariable w k0 x) zout (renamed (Ends w (suc j0) (OfVariable w k0 y)) (labels n))) p q a b v d.0
       (λ n f. lending-leads w j0 p q a (OfVariable w k0 y) k0 x zout (labels n) out e.0 d.1 f) k
@@ -214,7 +215,7 @@ module _ (u : UnitCode) (labels : Labels) (h : Objects Name) (w : Way) (z : Zone
         go : (tie : Tie) → result_fits u labels h tie t (Some x) caller ≡ true → ResultFits tie t s
         go Shares r = ap (λ o. if_both_known (Some t) o fits) (sym is) ∙ r
         go Raises r = ap (λ o. if_both_known (Some (raised_type t)) o fits) (sym is) ∙ r
-        go Lends r = let d = both (not (is_tied t)) (if_both_known (Some t) (type_of (context_of u caller) x) fits) r in (untied (is_tied t) d.0, ap (λ o. if_both_known (Some t) o fits) (sym is) ∙ d.1)
+        go Lends r = let d = and_parts (not (is_tied t)) (if_both_known (Some t) (type_of (context_of u caller) x) fits) r in (untied (is_tied t) d.0, ap (λ o. if_both_known (Some t) o fits) (sym is) ∙ d.1)
           where
             untied : (b : Bool) → not b ≡ true → b ≡ false
             untied true e = absurd (cc)

@@ -2,7 +2,7 @@
 use Rattle.std.proofs.Common.{◌≡◌, ℕ, suc, ◌+◌, arith, Bool, true, false, Option, Some, None, List, [], ◌∷◌, length, refl, sym, ap, subst, ◌∙◌, inl, inr}
 use Rattle.std.specs.Prelude.{◌⊎◌, ◌&&◌, ◌||◌, not, nat_eq, ℤ, slice_get}
 use Rattle.std.specs.List.{list_any}
-use Rattle.std.proofs.lemmas.Bool.{or_cases, or_left, or_right}
+use Rattle.std.proofs.lemmas.Bool.{or_cases, or_left, or_right, and_parts}
 use Rattle.perm_tree.specs.declared.ast.Span.{Span}
 use Rattle.perm_tree.specs.declared.ast.Shape.{Shape}
 use Rattle.perm_tree.specs.Code.{Term, Argument, Tie, Shares, Raises, Lends, Instruction, Invoke, Code, End, Give, Return, Do, If, While, Par, Recover, Routine, UnitCode}
@@ -19,7 +19,7 @@ use Rattle.perm_meaning.specs.Effects.{first_vars}
 use Rattle.perm_meaning.specs.Machine.{Frame, OpenBlock, OpenRecover, OpenCall, Blocks, Leaf, Way, Final, Fine, GaveBack, Failed, Did, On, Splits, settled, done, resumed, join_of}
 use Rattle.perm_meaning.specs.NamedHeap.{Held, Op, Own, Branch, Task}
 use Rattle.perm_meaning.specs.Turns.{blocks, lent_back}
-use Rattle.perm_meaning.proofs.SameName.{both, together, eq_itself, eq_true}
+use Rattle.perm_meaning.proofs.SameName.{together, eq_itself, eq_true}
 use Rattle.perm_core.specs.Core.{core}
 use Rattle.perm_core.specs.Marked.{call_right, calls_right}
 use Rattle.perm_core.specs.Picture.{context_if, context_of, valued, rest_of, routine_below, just_lent, just_taken, grown, recover_right, code_right, stack_right, tree_right}
@@ -51,7 +51,7 @@ either {G} {H} {K} f g x e = pick (or_cases (G x) (H x) e)
 
 -- what may have a value within a block and isn't its own stands outside
 outer : (U : Vars) (a : Code) (own : List ℕ) → IsWithin (minus (plus U (mentioned a)) (those own)) (plus U (block_mentions own a))
-outer U a own x e = go (both (plus U (mentioned a) x) (not (those own x)) e)
+outer U a own x e = go (and_parts (plus U (mentioned a) x) (not (those own x)) e)
   where
     go : (plus U (mentioned a) x ≡ true) × (not (those own x) ≡ true) → plus U (block_mentions own a) x ≡ true
     go (p, q) = pick (or_cases (U x) (mentioned a x) p)
@@ -68,7 +68,7 @@ none-own U a own e = go own (λ x q. q) e
     N = block_mentions own a
 
     not-own : (x : ℕ) → those own x ≡ true → N x ≡ true → ⊥
-    not-own x o n = clash (those own x) o (both (mentioned a x) (not (those own x)) n).1
+    not-own x o n = clash (those own x) o (and_parts (mentioned a x) (not (those own x)) n).1
       where
         clash : (t : Bool) → t ≡ true → not t ≡ true → ⊥
         clash true p q = absurd (let no : ⊥ = cc q in no)
@@ -101,7 +101,7 @@ module _ (u : UnitCode) where
   -- ---------- stacks ----------
   pub top-right : (m : ℕ) (c : Code) (st : List (Frame Held)) (U : Vars) → stack_right u m c st U ≡ true → code_right (context_of u m) c U ≡ true
   top-right m c [] U e = e
-  top-right m c (f ∷ st) U e = (both (code_right (context_of u m) c U) (recover_right (context_of u m) f c U && stack_right u (routine_below f m) (rest_of f) st (grown f c U)) e).0
+  top-right m c (f ∷ st) U e = (and_parts (code_right (context_of u m) c U) (recover_right (context_of u m) f c U && stack_right u (routine_below f m) (rest_of f) st (grown f c U)) e).0
 
   recover-instead : (k : Context) (f : Frame Held) (c a : Code) (U V : Vars) → IsWithin (plus V (mentioned a)) (plus U (mentioned c)) → recover_right k f c U ≡ true → recover_right k f a V ≡ true
   recover-instead k (OpenBlock own rest) c a U V less e = refl
@@ -122,8 +122,8 @@ module _ (u : UnitCode) where
   stack-instead m c a (f ∷ st) U V code less gives e =
       let k = context_of u m in
       let n = routine_below f m in
-      let p = both (code_right k c U) (recover_right k f c U && stack_right u n (rest_of f) st (grown f c U)) e in
-      let q = both (recover_right k f c U) (stack_right u n (rest_of f) st (grown f c U)) p.1 in
+      let p = and_parts (code_right k c U) (recover_right k f c U && stack_right u n (rest_of f) st (grown f c U)) e in
+      let q = and_parts (recover_right k f c U) (stack_right u n (rest_of f) st (grown f c U)) p.1 in
       together (code_right k a V) (recover_right k f a V && stack_right u n (rest_of f) st (grown f a V)) code
       (together (recover_right k f a V) (stack_right u n (rest_of f) st (grown f a V)) (recover-instead k f c a U V less q.0) (stack-fewer u n (rest_of f) st (grown f a V) (grown f c U) (grown-instead f c a U V less gives) q.1))
 
@@ -132,7 +132,7 @@ module _ (u : UnitCode) where
   below-right m c f st U e =
       let k = context_of u m in
       let below : Bool = stack_right u (routine_below f m) (rest_of f) st (grown f c U) in
-      (both (recover_right k f c U) below (both (code_right k c U) (recover_right k f c U && below) e).1).1
+      (and_parts (recover_right k f c U) below (and_parts (code_right k c U) (recover_right k f c U && below) e).1).1
 
   settled-right : (b : Branch) (vs : List Held) (c : Code) (st : List (Frame Held)) → stack_right u b.own.routine c st (valued vs) ≡ true → tree_right u (Leaf (settled (core u) b vs c st)) ≡ true
   settled-right b vs End (OpenBlock own rest ∷ st) e =
@@ -159,9 +159,9 @@ module _ (u : UnitCode) where
   do-right : (m : ℕ) (at : Span) (i : Instruction) (rest : Code) (st : List (Frame Held)) (U V : Vars) → IsWithin V (plus U (mentions i)) → stack_right u m (Do at i rest) st U ≡ true → stack_right u m rest st V ≡ true
   do-right m at i rest st U V less e =
       let k = context_of u m in
-      let p = both (call_right k i && calls_right k rest) (is_scoped k rest (plus U (mentions i))) (top-right m (Do at i rest) st U e) in
+      let p = and_parts (call_right k i && calls_right k rest) (is_scoped k rest (plus U (mentions i))) (top-right m (Do at i rest) st U e) in
       stack-instead m (Do at i rest) rest st U V
-      (together (calls_right k rest) (is_scoped k rest V) (both (call_right k i) (calls_right k rest) p.0).1 (scoped-fewer k rest V (plus U (mentions i)) less p.1))
+      (together (calls_right k rest) (is_scoped k rest V) (and_parts (call_right k i) (calls_right k rest) p.0).1 (scoped-fewer k rest V (plus U (mentions i)) less p.1))
       (either (then less (within-plus U U (mentions i) (plus (mentions i) (mentioned rest)) (same U) (left (mentions i) (mentioned rest))))
       (then (right (mentions i) (mentioned rest)) (right U (plus (mentions i) (mentioned rest)))))
       (same (given rest)) e
@@ -194,16 +194,16 @@ module _ (u : UnitCode) where
       M = plus U (plus N1 N2)
 
       parts : (calls_right k c ≡ true) × (is_scoped k c U ≡ true)
-      parts = both (calls_right k c) (is_scoped k c U) (top-right m c st U e)
+      parts = and_parts (calls_right k c) (is_scoped k c U) (top-right m c st U e)
 
       calls : (calls_right k a ≡ true) × ((calls_right k d ≡ true) × (calls_right k rest ≡ true))
-      calls = let p = both (calls_right k a) (calls_right k d && calls_right k rest) parts.0 in (p.0, both (calls_right k d) (calls_right k rest) p.1)
+      calls = let p = and_parts (calls_right k a) (calls_right k d && calls_right k rest) parts.0 in (p.0, and_parts (calls_right k d) (calls_right k rest) p.1)
 
       scoped : (is_scoped k a U ≡ true) × ((is_scoped k d U ≡ true) × (is_scoped k rest M ≡ true))
       scoped =
-          let p = both (has_none U own1 && has_none U own2) (is_scoped k a U && (is_scoped k d U && is_scoped k rest M)) parts.1 in
-          let q = both (is_scoped k a U) (is_scoped k d U && is_scoped k rest M) p.1 in
-          (q.0, both (is_scoped k d U) (is_scoped k rest M) q.1)
+          let p = and_parts (has_none U own1 && has_none U own2) (is_scoped k a U && (is_scoped k d U && is_scoped k rest M)) parts.1 in
+          let q = and_parts (is_scoped k a U) (is_scoped k d U && is_scoped k rest M) p.1 in
+          (q.0, and_parts (is_scoped k d U) (is_scoped k rest M) q.1)
 
       T : Vars
       T = term_mentions x
@@ -249,16 +249,16 @@ module _ (u : UnitCode) where
       M = plus U N
 
       parts : (calls_right k c ≡ true) × (is_scoped k c U ≡ true)
-      parts = both (calls_right k c) (is_scoped k c U) (top-right m c st U e)
+      parts = and_parts (calls_right k c) (is_scoped k c U) (top-right m c st U e)
 
       calls : (calls_right k body ≡ true) × (calls_right k rest ≡ true)
-      calls = both (calls_right k body) (calls_right k rest) parts.0
+      calls = and_parts (calls_right k body) (calls_right k rest) parts.0
 
       head : (has_none U own ≡ true) × (is_scoped k body M && is_scoped k rest M ≡ true)
-      head = both (has_none U own) (is_scoped k body M && is_scoped k rest M) parts.1
+      head = and_parts (has_none U own) (is_scoped k body M && is_scoped k rest M) parts.1
 
       scoped : (is_scoped k body M ≡ true) × (is_scoped k rest M ≡ true)
-      scoped = both (is_scoped k body M) (is_scoped k rest M) head.1
+      scoped = and_parts (is_scoped k body M) (is_scoped k rest M) head.1
 
       T : Vars
       T = term_mentions x
@@ -321,28 +321,28 @@ module _ (u : UnitCode) where
       W = plus (minus (plus V (mentioned body)) (those own)) (plus (valued saved) (given body))
 
       parts : (calls_right k c ≡ true) × (is_scoped k c U ≡ true)
-      parts = both (calls_right k c) (is_scoped k c U) (top-right m c st U e)
+      parts = and_parts (calls_right k c) (is_scoped k c U) (top-right m c st U e)
 
       calls : (calls_right k body ≡ true) × (calls_right k rest ≡ true)
-      calls = both (calls_right k body) (calls_right k rest) parts.0
+      calls = and_parts (calls_right k body) (calls_right k rest) parts.0
 
       halves : (given body x && (has_none (plus U H) own && hides_tied k (plus U N) hides) ≡ true) × (is_scoped k body (plus U H) && is_scoped k rest M ≡ true)
-      halves = both (given body x && (has_none (plus U H) own && hides_tied k (plus U N) hides)) (is_scoped k body (plus U H) && is_scoped k rest M) parts.1
+      halves = and_parts (given body x && (has_none (plus U H) own && hides_tied k (plus U N) hides)) (is_scoped k body (plus U H) && is_scoped k rest M) parts.1
 
       head : (given body x ≡ true) × (has_none (plus U H) own && hides_tied k (plus U N) hides ≡ true)
-      head = both (given body x) (has_none (plus U H) own && hides_tied k (plus U N) hides) halves.0
+      head = and_parts (given body x) (has_none (plus U H) own && hides_tied k (plus U N) hides) halves.0
 
       tied : hides_tied k (plus U N) hides ≡ true
-      tied = (both (has_none (plus U H) own) (hides_tied k (plus U N) hides) head.1).1
+      tied = (and_parts (has_none (plus U H) own) (hides_tied k (plus U N) hides) head.1).1
 
       scoped : (is_scoped k body (plus U H) ≡ true) × (is_scoped k rest M ≡ true)
-      scoped = both (is_scoped k body (plus U H)) (is_scoped k rest M) halves.1
+      scoped = and_parts (is_scoped k body (plus U H)) (is_scoped k rest M) halves.1
 
       fewer : IsWithin V U
-      fewer y m = (both (not (those hides y)) (valued vs y) (only-within (λ y. not (those hides y)) vs y m)).1
+      fewer y m = (and_parts (not (those hides y)) (valued vs y) (only-within (λ y. not (those hides y)) vs y m)).1
 
       fewer_saved : IsWithin (valued saved) U
-      fewer_saved y m = (both (those hides y) (valued vs y) (only-within (those hides) vs y m)).1
+      fewer_saved y m = (and_parts (those hides y) (valued vs y) (only-within (those hides) vs y m)).1
 
       inner : IsWithin (minus (plus V (mentioned body)) (those own)) (plus U N)
       inner = then (outer V body own) (within-plus V U N N fewer (same N))
@@ -401,19 +401,19 @@ module _ (u : UnitCode) where
       second_vs = only tagged N2 b.own.vars
 
       fewer : (G : Vars) → IsWithin (valued (only tagged G b.own.vars)) U
-      fewer G y q = (both (G y) (U y) (only-within G b.own.vars y q)).1
+      fewer G y q = (and_parts (G y) (U y) (only-within G b.own.vars y q)).1
 
       parts : (calls_right k c ≡ true) × (is_scoped k c U ≡ true)
-      parts = both (calls_right k c) (is_scoped k c U) (top-right m c b.stack U e)
+      parts = and_parts (calls_right k c) (is_scoped k c U) (top-right m c b.stack U e)
 
       calls : (calls_right k a ≡ true) × ((calls_right k d ≡ true) × (calls_right k rest ≡ true))
-      calls = let p = both (calls_right k a) (calls_right k d && calls_right k rest) parts.0 in (p.0, both (calls_right k d) (calls_right k rest) p.1)
+      calls = let p = and_parts (calls_right k a) (calls_right k d && calls_right k rest) parts.0 in (p.0, and_parts (calls_right k d) (calls_right k rest) p.1)
 
       scoped : (is_scoped k a U ≡ true) × ((is_scoped k d U ≡ true) × (is_scoped k rest M ≡ true))
       scoped =
-          let p = both (has_none U own1 && has_none U own2) (is_scoped k a U && (is_scoped k d U && is_scoped k rest M)) parts.1 in
-          let q = both (is_scoped k a U) (is_scoped k d U && is_scoped k rest M) p.1 in
-          (q.0, both (is_scoped k d U) (is_scoped k rest M) q.1)
+          let p = and_parts (has_none U own1 && has_none U own2) (is_scoped k a U && (is_scoped k d U && is_scoped k rest M)) parts.1 in
+          let q = and_parts (is_scoped k a U) (is_scoped k d U && is_scoped k rest M) p.1 in
+          (q.0, and_parts (is_scoped k d U) (is_scoped k rest M) q.1)
 
       stands : IsWithin (mentioned rest) (mentioned c)
       stands = then (right N2 (mentioned rest)) (right N1 (plus N2 (mentioned rest)))
@@ -522,8 +522,8 @@ module _ (u : UnitCode) where
             let inner : Vars = minus (plus U (plus (just y) (just x))) (those own) in
             then (assign-within (from_either (those hides) saved ws) x v)
             (either (then (either-within (those hides) saved ws)
-            (either (λ z m. or_right (inner z) (plus (valued saved) (just x) z) (or_left (valued saved z) (just x z) (both (those hides z) (valued saved z) m).1))
-            (λ z m. or_left (inner z) (plus (valued saved) (just x) z) (stay z (both (valued ws z) (not (those hides z)) m).0))))
+            (either (λ z m. or_right (inner z) (plus (valued saved) (just x) z) (or_left (valued saved z) (just x z) (and_parts (those hides z) (valued saved z) m).1))
+            (λ z m. or_left (inner z) (plus (valued saved) (just x) z) (stay z (and_parts (valued ws z) (not (those hides z)) m).0))))
             (then (right (valued saved) (just x)) (right inner (plus (valued saved) (just x)))))
     turn-right b t w _ _ _ _ here e (returning at a tie into y saved lent caller rest st v l q goes) =
         on-right b l t caller (assign_into (lent_back lent y saved) into v) rest st goes.vars goes.routine
@@ -542,15 +542,15 @@ module _ (u : UnitCode) where
     merged-within m p vs ls rs =
         let N : Vars = plus (mentions_l p) (mentions_r p) in
         then (either-within (back_r u m p) rs (from_either (back_l u m p) ls vs))
-        (either (λ y q. or_right (valued vs y) (N y) (or_right (mentions_l p y) (mentions_r p y) (back (writes_r p) (mentions_r p) (block_writes-within p.own_r p.right) y (both (back_r u m p y) (valued rs y) q).0)))
-        (λ y q. inner y (either-within (back_l u m p) ls vs y (both (valued (from_either (back_l u m p) ls vs) y) (not (back_r u m p y)) q).0)))
+        (either (λ y q. or_right (valued vs y) (N y) (or_right (mentions_l p y) (mentions_r p y) (back (writes_r p) (mentions_r p) (block_writes-within p.own_r p.right) y (and_parts (back_r u m p y) (valued rs y) q).0)))
+        (λ y q. inner y (either-within (back_l u m p) ls vs y (and_parts (valued (from_either (back_l u m p) ls vs) y) (not (back_r u m p y)) q).0)))
       where
         back : (W N : Vars) → IsWithin W N → (y : ℕ) → plus W (meet (isolated_in u m) N) y ≡ true → N y ≡ true
         back W N less y e = pick (or_cases (W y) (isolated_in u m y && N y) e)
           where
             pick : (W y ≡ true) ⊎ (isolated_in u m y && N y ≡ true) → N y ≡ true
             pick (inl q) = less y q
-            pick (inr q) = (both (isolated_in u m y) (N y) q).1
+            pick (inr q) = (and_parts (isolated_in u m y) (N y) q).1
 
         inner : (y : ℕ) → plus (meet (back_l u m p) (valued ls)) (minus (valued vs) (back_l u m p)) y ≡ true → plus (valued vs) (plus (mentions_l p) (mentions_r p)) y ≡ true
         inner y e = pick (or_cases (back_l u m p y && valued ls y) (valued vs y && not (back_l u m p y)) e)
@@ -559,8 +559,8 @@ module _ (u : UnitCode) where
             N = plus (mentions_l p) (mentions_r p)
 
             pick : (back_l u m p y && valued ls y ≡ true) ⊎ (valued vs y && not (back_l u m p y) ≡ true) → plus (valued vs) N y ≡ true
-            pick (inl q) = or_right (valued vs y) (N y) (or_left (mentions_l p y) (mentions_r p y) (back (writes_l p) (mentions_l p) (block_writes-within p.own_l p.left) y (both (back_l u m p y) (valued ls y) q).0))
-            pick (inr q) = or_left (valued vs y) (N y) (both (valued vs y) (not (back_l u m p y)) q).0
+            pick (inl q) = or_right (valued vs y) (N y) (or_left (mentions_l p y) (mentions_r p y) (back (writes_l p) (mentions_l p) (block_writes-within p.own_l p.left) y (and_parts (back_l u m p y) (valued ls y) q).0))
+            pick (inr q) = or_left (valued vs y) (N y) (and_parts (valued vs y) (not (back_l u m p y)) q).0
 
     resumed-right : (b : Branch) (p : Blocks) (x y : Final Held) → stack_right u b.own.routine b.code b.stack (plus (valued b.own.vars) (plus (mentions_l p) (mentions_r p))) ≡ true → tree_right u (resumed (core u) b (join_of (core u) b p x y)) ≡ true
     resumed-right b p x y e = go x y
@@ -588,14 +588,14 @@ module _ (u : UnitCode) where
     keeps-right o v _ _ after e (refused_leaf b t _ q open_ is) = ap (tree_right u) is
     keeps-right o v _ _ after e (told_leaf b t w d _ q open_ due turn is) = ap (tree_right u) is ∙ turn-right b t w b.code b.stack o d refl e turn
     keeps-right o v _ _ after e (joining b p l r x y _ q ended_l ended_r is) =
-        ap (tree_right u) is ∙ resumed-right b p x y (both (stack_right u b.own.routine b.code b.stack (plus (valued b.own.vars) (plus (mentions_l p) (mentions_r p)))) (tree_right u l && tree_right u r) e).0
+        ap (tree_right u) is ∙ resumed-right b p x y (and_parts (stack_right u b.own.routine b.code b.stack (plus (valued b.own.vars) (plus (mentions_l p) (mentions_r p)))) (tree_right u l && tree_right u r) e).0
     keeps-right o v _ _ _ e (on_left w b p l r after is) =
         let top : Bool = stack_right u b.own.routine b.code b.stack (plus (valued b.own.vars) (plus (mentions_l p) (mentions_r p))) in
-        let q = both top (tree_right u l && tree_right u r) e in
-        let s = both (tree_right u l) (tree_right u r) q.1 in
+        let q = and_parts top (tree_right u l && tree_right u r) e in
+        let s = and_parts (tree_right u l) (tree_right u r) q.1 in
         together top (tree_right u after && tree_right u r) q.0 (together (tree_right u after) (tree_right u r) (keeps-right o v w l after s.0 is) s.1)
     keeps-right o v _ _ _ e (on_right w b p l r after is) =
         let top : Bool = stack_right u b.own.routine b.code b.stack (plus (valued b.own.vars) (plus (mentions_l p) (mentions_r p))) in
-        let q = both top (tree_right u l && tree_right u r) e in
-        let s = both (tree_right u l) (tree_right u r) q.1 in
+        let q = and_parts top (tree_right u l && tree_right u r) e in
+        let s = and_parts (tree_right u l) (tree_right u r) q.1 in
         together top (tree_right u l && tree_right u after) q.0 (together (tree_right u l) (tree_right u after) s.0 (keeps-right o v w r after s.1 is))

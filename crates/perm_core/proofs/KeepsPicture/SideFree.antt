@@ -2,12 +2,12 @@
 use Rattle.std.proofs.Common.{◌≡◌, ℕ, Bool, true, false, List, [], ◌∷◌, refl, sym, ap, ◌∙◌, inl, inr}
 use Rattle.std.specs.Prelude.{◌⊎◌, ◌&&◌, ◌||◌, not, nat_eq}
 use Rattle.std.specs.List.{list_any}
-use Rattle.std.proofs.lemmas.Bool.{or_cases, or_left, or_right}
+use Rattle.std.proofs.lemmas.Bool.{or_cases, or_left, or_right, and_parts}
 use Rattle.perm_tree.specs.Code.{Code, End, Give, Return, Do, If, While, Par, Recover}
 use Rattle.perm_tree.specs.Mentions.{term_mentions, argument_mentions, mentions, mentioned, block_mentions}
 use Rattle.perm_tree.specs.Vars.{Vars, just, those, plus, minus, IsWithin}
 use Rattle.perm_rules.specs.Parts.{Context}
-use Rattle.perm_meaning.proofs.SameName.{both, together, eq_true, eq_itself}
+use Rattle.perm_meaning.proofs.SameName.{together, eq_true, eq_itself}
 use Rattle.perm_rules.specs.Scoping.{given, has_none, hides_tied, is_scoped}
 use Rattle.perm_core.proofs.KeepsPicture.FewerLive.{IsFree}
 
@@ -87,10 +87,10 @@ side-free c (If at t own1 a own2 b rest) U e =
     let B : Vars = block_mentions own2 b in
     let R : Vars = mentioned rest in
     let M : Vars = plus (term_mentions t) (plus A (plus B R)) in
-    let d = both (has_none U own1 && has_none U own2) (is_scoped c a U && (is_scoped c b U && is_scoped c rest (plus U (plus A B)))) e in
-    let o = both (has_none U own1) (has_none U own2) d.0 in
-    let p = both (is_scoped c a U) (is_scoped c b U && is_scoped c rest (plus U (plus A B))) d.1 in
-    let q = both (is_scoped c b U) (is_scoped c rest (plus U (plus A B))) p.1 in (
+    let d = and_parts (has_none U own1 && has_none U own2) (is_scoped c a U && (is_scoped c b U && is_scoped c rest (plus U (plus A B)))) e in
+    let o = and_parts (has_none U own1) (has_none U own2) d.0 in
+    let p = and_parts (is_scoped c a U) (is_scoped c b U && is_scoped c rest (plus U (plus A B))) d.1 in
+    let q = and_parts (is_scoped c b U) (is_scoped c rest (plus U (plus A B))) p.1 in (
       λ y m. stands-out U M y (or_left (term_mentions t y) (plus A (plus B R) y) m),
       (
         free-fewer (minus U M) (minus U (mentioned a)) a (narrower U M (mentioned a) U (λ y u. u) (λ y u m. or_right (term_mentions t y) (plus A (plus B R) y) (or_left (A y) (plus B R y) (in-block U own1 a y o.0 u m)))) (side-free c a U p.0),
@@ -105,10 +105,10 @@ side-free c (Par at own1 a own2 b rest) U e =
     let B : Vars = block_mentions own2 b in
     let R : Vars = mentioned rest in
     let M : Vars = plus A (plus B R) in
-    let d = both (has_none U own1 && has_none U own2) (is_scoped c a U && (is_scoped c b U && is_scoped c rest (plus U (plus A B)))) e in
-    let o = both (has_none U own1) (has_none U own2) d.0 in
-    let p = both (is_scoped c a U) (is_scoped c b U && is_scoped c rest (plus U (plus A B))) d.1 in
-    let q = both (is_scoped c b U) (is_scoped c rest (plus U (plus A B))) p.1 in (
+    let d = and_parts (has_none U own1 && has_none U own2) (is_scoped c a U && (is_scoped c b U && is_scoped c rest (plus U (plus A B)))) e in
+    let o = and_parts (has_none U own1) (has_none U own2) d.0 in
+    let p = and_parts (is_scoped c a U) (is_scoped c b U && is_scoped c rest (plus U (plus A B))) d.1 in
+    let q = and_parts (is_scoped c b U) (is_scoped c rest (plus U (plus A B))) p.1 in (
       free-fewer (minus U M) (minus U (mentioned a)) a (narrower U M (mentioned a) U (λ y u. u) (λ y u m. or_left (A y) (plus B R y) (in-block U own1 a y o.0 u m))) (side-free c a U p.0),
       (
         free-fewer (minus U M) (minus U (mentioned b)) b (narrower U M (mentioned b) U (λ y u. u) (λ y u m. or_right (A y) (plus B R y) (or_left (B y) (R y) (in-block U own2 b y o.1 u m)))) (side-free c b U q.0),
@@ -119,8 +119,8 @@ side-free c (While at t own body rest) U e =
     let B : Vars = block_mentions own body in
     let R : Vars = mentioned rest in
     let M : Vars = plus (term_mentions t) (plus B R) in
-    let d = both (has_none U own) (is_scoped c body (plus U B) && is_scoped c rest (plus U B)) e in
-    let p = both (is_scoped c body (plus U B)) (is_scoped c rest (plus U B)) d.1 in (
+    let d = and_parts (has_none U own) (is_scoped c body (plus U B) && is_scoped c rest (plus U B)) e in
+    let p = and_parts (is_scoped c body (plus U B)) (is_scoped c rest (plus U B)) d.1 in (
       λ y m. stands-out U M y (or_left (term_mentions t y) (plus B R y) m),
       (
         free-fewer (minus U M) (minus (plus U B) (mentioned body)) body (narrower U M (mentioned body) (plus U B) (keep U B) (λ y u m. or_right (term_mentions t y) (plus B R y) (or_left (B y) (R y) (in-block U own body y d.0 u m)))) (side-free c body (plus U B) p.0),
@@ -133,9 +133,9 @@ side-free c (Recover at x own hides body rest) U e =
     let M : Vars = plus (just x) (plus B R) in
     let V : Vars = plus (just x) (plus U B) in
     let H : Vars = plus U (those hides) in
-    let d = both (given body x && (has_none H own && hides_tied c (plus U B) hides)) (is_scoped c body H && is_scoped c rest V) e in
-    let o = both (has_none H own) (hides_tied c (plus U B) hides) (both (given body x) (has_none H own && hides_tied c (plus U B) hides) d.0).1 in
-    let p = both (is_scoped c body H) (is_scoped c rest V) d.1 in
+    let d = and_parts (given body x && (has_none H own && hides_tied c (plus U B) hides)) (is_scoped c body H && is_scoped c rest V) e in
+    let o = and_parts (has_none H own) (hides_tied c (plus U B) hides) (and_parts (given body x) (has_none H own && hides_tied c (plus U B) hides) d.0).1 in
+    let p = and_parts (is_scoped c body H) (is_scoped c rest V) d.1 in
     let wide : IsWithin U H = keep U (those hides) in (
       free-fewer (minus U M) (minus H (mentioned body)) body (narrower U M (mentioned body) H wide (λ y u m. or_right (just x y) (plus B R y) (or_left (B y) (R y) (in-block H own body y o.0 (wide y u) m)))) (side-free c body H p.0),
       free-fewer (minus U M) (minus V R) rest (narrower U M R V (λ y u. or_right (just x y) (plus U B y) (or_left (U y) (B y) u)) (λ y u m. or_right (just x y) (plus B R y) (or_right (B y) (R y) m))) (side-free c rest V p.1),

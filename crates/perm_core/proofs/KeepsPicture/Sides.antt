@@ -1,11 +1,12 @@
 -- After an event each side stands in the method of its parent, and bears the path of the par that its parent began last.
 use Rattle.std.proofs.Common.{◌≡◌, ℕ, Bool, true, false, Option, List, [], ◌∷◌, refl, sym, ap, subst, ◌∙◌}
 use Rattle.std.specs.Prelude.{◌&&◌, ◌||◌, not, nat_eq}
+use Rattle.std.proofs.lemmas.Bool.{and_parts}
 use Rattle.perm_tree.specs.Code.{Code, End, Give, Return, Do, If, While, Par, Recover, UnitCode}
 use Rattle.perm_meaning.specs.Names.{Path, Mark}
 use Rattle.perm_meaning.specs.Machine.{Frame, OpenBlock, OpenRecover, OpenCall, Leaf, Fork, Way, Final, Fine, GaveBack, Failed, Did, On, Splits, Ends, Dies, settled, done, resumed, join_of}
 use Rattle.perm_meaning.specs.NamedHeap.{Held, Op, Own, Branch, Task}
-use Rattle.perm_meaning.proofs.SameName.{both, together, eq_itself, eq_true}
+use Rattle.perm_meaning.proofs.SameName.{together, eq_itself, eq_true}
 use Rattle.perm_core.specs.Core.{core}
 use Rattle.perm_core.specs.Endings.{is_open}
 use Rattle.perm_core.specs.Picture.{lowest, stands_in, sides_stand, path_of, PathsFit}
@@ -135,9 +136,9 @@ module _ (u : UnitCode) where
   keeps-sides o v _ _ after fit (joining b p l r x y _ q left right same) = subst SidesFit (sym same) (resumed-sides b (join_of (core u) b p x y))
   keeps-sides o v _ _ _ fit (on_left w b p l r after is) =
       let m = b.own.routine in
-      let q = both (stands_in m l && stands_in m r) (sides_stand l && sides_stand r) fit.stand in
-      let top = both (stands_in m l) (stands_in m r) q.0 in
-      let under = both (sides_stand l) (sides_stand r) q.1 in
+      let q = and_parts (stands_in m l && stands_in m r) (sides_stand l && sides_stand r) fit.stand in
+      let top = and_parts (stands_in m l) (stands_in m r) q.0 in
+      let under = and_parts (sides_stand l) (sides_stand r) q.1 in
       let root = root-keeps m o v w l after top.0 is in
       let more = keeps-sides o v w l after (record { stand = under.0; paths = fit.paths.4 }) is in
       record {
@@ -146,9 +147,9 @@ module _ (u : UnitCode) where
       }
   keeps-sides o v _ _ _ fit (on_right w b p l r after is) =
       let m = b.own.routine in
-      let q = both (stands_in m l && stands_in m r) (sides_stand l && sides_stand r) fit.stand in
-      let top = both (stands_in m l) (stands_in m r) q.0 in
-      let under = both (sides_stand l) (sides_stand r) q.1 in
+      let q = and_parts (stands_in m l && stands_in m r) (sides_stand l && sides_stand r) fit.stand in
+      let top = and_parts (stands_in m l) (stands_in m r) q.0 in
+      let under = and_parts (sides_stand l) (sides_stand r) q.1 in
       let root = root-keeps m o v w r after top.1 is in
       let more = keeps-sides o v w r after (record { stand = under.1; paths = fit.paths.5 }) is in
       record {

@@ -2,25 +2,22 @@
 use Rattle.std.proofs.Common.{◌≡◌, ℕ, zero, suc, Bool, true, false, List, [], ◌∷◌, refl, sym, ap, ◌∙◌, inl, inr}
 use Rattle.std.specs.Prelude.{◌⊎◌, ◌&&◌, ◌||◌, not, length}
 use Rattle.std.specs.List.{list_any}
-use Rattle.std.proofs.lemmas.Bool.{or_cases, or_left, or_right}
+use Rattle.std.proofs.lemmas.Bool.{or_cases, or_left, or_right, and_parts}
 use Rattle.perm_tree.specs.Code.{Code, End, Give, Return, Do, If, While, Par, Recover, UnitCode}
 use Rattle.perm_tree.specs.Mentions.{mentions, mentioned, block_mentions}
 use Rattle.perm_tree.specs.Vars.{Vars, just, those, plus, minus, meet, some_below, IsWithin}
-use Rattle.perm_tree.proofs.MentionLaws.{within-plus, within-minus}
+use Rattle.perm_tree.proofs.MentionLaws.{within-plus, within-minus, same-within}
 use Rattle.perm_rules.specs.Parts.{Context}
 use Rattle.perm_rules.specs.Pars.{tied_vars}
 use Rattle.perm_meaning.specs.Machine.{Frame, OpenBlock, OpenRecover, OpenCall}
 use Rattle.perm_meaning.specs.NamedHeap.{Held}
-use Rattle.perm_meaning.proofs.SameName.{both, together}
+use Rattle.perm_meaning.proofs.SameName.{together}
 use Rattle.perm_rules.specs.Scoping.{hides_tied, has_none, is_scoped, given}
 use Rattle.perm_core.specs.Marked.{calls_right}
 use Rattle.perm_core.specs.Picture.{context_of, valued, rest_of, routine_below, just_lent, just_taken, grown, recover_right, code_right, stack_right}
 
-same-within : (G : Vars) → IsWithin G G
-same-within G x e = e
-
 pub and-map : (a b c d : Bool) → (a ≡ true → c ≡ true) → (b ≡ true → d ≡ true) → a && b ≡ true → c && d ≡ true
-and-map a b c d f g e = let x = both a b e in together c d (f x.0) (g x.1)
+and-map a b c d f g e = let x = and_parts a b e in together c d (f x.0) (g x.1)
 
 pub not-map : (a b : Bool) → (a ≡ true → b ≡ true) → not b ≡ true → not a ≡ true
 not-map false b f e = refl
@@ -49,7 +46,7 @@ pub tied-fewer : (c : Context) (V U : Vars) (hides : List ℕ) → IsWithin V U 
 tied-fewer c V U hides less e =
     let few : Vars = minus (meet (tied_vars c) V) (those hides) in
     let many : Vars = minus (meet (tied_vars c) U) (those hides) in
-    not-map (some_below (length c.vars) few) (some_below (length c.vars) many) (below-more few many (length c.vars) (within-minus (meet (tied_vars c) V) (meet (tied_vars c) U) (those hides) (λ x q. (let d = both (tied_vars c x) (V x) q in together (tied_vars c x) (U x) d.0 (less x d.1))))) e
+    not-map (some_below (length c.vars) few) (some_below (length c.vars) many) (below-more few many (length c.vars) (within-minus (meet (tied_vars c) V) (meet (tied_vars c) U) (those hides) (λ x q. (let d = and_parts (tied_vars c x) (V x) q in together (tied_vars c x) (U x) d.0 (less x d.1))))) e
 
 -- ---------- codes ----------
 module _ (c : Context) where
