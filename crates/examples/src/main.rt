@@ -1,6 +1,9 @@
 //! Runs each program of the folder in which it is started, and tells whether what comes of it is what stands beside it: `NAME.perm` writes `NAME.out`, and ends with the status in `NAME.status`, or with 0 where there is no such file.
 #![tactic(auto)]
 
+#[cfg(test)]
+mod tests;
+
 use perm_base::{FileShelf, MemSink};
 use perm_top::run_words;
 use std::alloc::AllocError;

@@ -45,6 +45,3 @@ pub fn lex(alloc: Global, text: &[u8]) -> Result<Vec<Token>, LexError>
 pub fn one_answer()
     ensures { (text : List ℕ) → HasOneAnswer text }
 {}
-
-#[cfg(test)]
-mod tests;

@@ -70,5 +70,3 @@ pub fn lexed()
     ensures few { (text : List ℕ) (tokens : List Token) → Lexes text tokens → length text < 2 ^ 32 → length tokens < 2 ^ 32 }
 {}
 
-#[cfg(test)]
-mod tests;

@@ -1,15 +1,12 @@
-use crate::{MOST_BYTES, lex};
+//! What `lex` gives.
+
+use super::short;
+use perm_lex::lex;
 use perm_tree::ast::Span;
 use perm_tree::errors::LexError;
 use perm_tree::tokens::TokenKind::*;
 use perm_tree::tokens::{Token, TokenKind};
 use std::alloc::Global;
-
-/// Lexes a text of a test, which is short.
-fn lex_short(alloc: Global, text: &[u8]) -> Result<Vec<Token>, LexError> {
-    let end = text.len().min(MOST_BYTES);
-    lex(alloc, &text[..end])
-}
 
 #[test]
 fn the_first_fault_is_told(rt: HostRuntime) {
@@ -31,7 +28,7 @@ fn the_first_fault_is_told(rt: HostRuntime) {
         (b"@ /*", LexError::BadByte { at: 0 }),
     ];
     for (text, error) in cases {
-        assert_eq!(rt; lex_short(rt.alloc(), text).err(), Some(error), "{text:?}");
+        assert_eq!(rt; lex(rt.alloc(), short(text)).err(), Some(error), "{text:?}");
     }
 }
 
@@ -88,7 +85,7 @@ fn tokens_are_the_longest(rt: HostRuntime) -> Result<(), LexError> {
         (b"a//*\nb*/", &[Name, Name, Star, Slash]),
     ];
     for (text, kinds) in cases {
-        let tokens = lex_short(rt.alloc(), text)?;
+        let tokens = lex(rt.alloc(), short(text))?;
         assert_eq!(rt; tokens.len(), kinds.len(), "{text:?}");
         for (token, kind) in tokens.iter().zip(kinds) {
             assert_eq!(rt; token.kind, *kind, "{text:?}");

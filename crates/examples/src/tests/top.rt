@@ -1,17 +1,10 @@
 //! Runs of the top call over files and output in memory.
 
-use crate::run::run_words;
+use super::POINT;
 use perm_base::{MemFile, MemShelf, MemSink};
-use perm_lex::{MOST_BYTES, lex};
-use perm_parse::parse;
-use perm_table::resolve;
-use perm_tree::ast::Span;
-use perm_tree::unit::Unit;
+use perm_top::run_words;
 use std::alloc::{AllocError, Global};
 use std::test::Fail;
-
-const POINT: &str =
-    "class Main {\n  long x;\n  long y;\n  long Run(immutable long[] input) writable {\n    isolated Main p = new Main();\n    p.x = 3;\n    p.y = 4;\n    long a = p.x;\n    long b = p.y;\n    print a + b;\n    return 0;\n  }\n}\n";
 
 const LIST: &str =
     "class Cell {\n  long value;\n  writable Cell next;\n  long Total() readable {\n    long s = this.value;\n    readable Cell n = this.next;\n    if (n == null) {\n    } else {\n      long t = n.Total();\n      s = s + t;\n    }\n    return s;\n  }\n}\nclass Main {\n  immutable Cell list;\n  long Run(immutable long[] input) writable {\n    immutable Cell c = recover {\n      writable Cell head = null;\n      long i = 0;\n      long n = input.Length;\n      while (i < n) {\n        writable Cell k = new Cell();\n        long v = input[i];\n        k.value = v;\n        k.next = head;\n        head = k;\n        i = i + 1;\n      }\n      readable Cell r = head;\n      give r;\n    };\n    this.list = c;\n    long total = c.Total();\n    print total;\n    return total;\n  }\n}\n";
@@ -199,57 +192,13 @@ fn one_more_than_a_limit_is_too_many(rt: HostRuntime) -> Result<(), Fail> {
     Ok(())
 }
 
-/// The unit of a short text without a fault.
-fn unit_of(alloc: Global, text: &[u8]) -> Result<Unit, Fail> {
-    let end = text.len().min(MOST_BYTES);
-    let tokens = lex(alloc, &text[..end])?;
-    let program = parse(alloc, &text[..end], tokens.as_slice())?;
-    Ok(resolve(alloc, program)?)
-}
-
-#[test]
-fn variables_have_their_scopes(rt: HostRuntime) -> Result<(), Fail> {
-    let text =
-        b"class Main { long Run(immutable long[] x) writable { par { long y; long z; } { } long a; return 0; } }";
-    let unit = unit_of(rt.alloc(), text)?;
-    let tables = unit.tables();
-    assert_eq!(rt; tables.len(), 1);
-    let whole = Span { start: 18, end: 98 };
-    let scopes = [
-        whole,
-        whole,
-        Span { start: 64, end: 74 },
-        Span { start: 72, end: 74 },
-        Span { start: 86, end: 98 },
-    ];
-    let vars = tables[0].vars.as_slice();
-    assert_eq!(rt; vars.len(), scopes.len());
-    for (var, scope) in vars.iter().zip(scopes) {
-        assert_eq!(rt; var.scope, scope);
-    }
-    Ok(())
-}
-
-#[test]
-fn classes_are_found_by_their_names(rt: HostRuntime) -> Result<(), Fail> {
-    let text =
-        b"class B { } class Main { long Run(immutable long[] x) writable { return 0; } } class C { }";
-    let unit = unit_of(rt.alloc(), text)?;
-    // The names are `this`, `B`, `Main`, `Run`, `x` and `C`, in this order.
-    let places = [3, 0, 1, 3, 3, 2, 3];
-    for (name, place) in (0..7).zip(places) {
-        assert_eq!(rt; unit.class_place(name), place);
-    }
-    Ok(())
-}
-
 /// A `Run` that returns a number behind so many opening parentheses.
-fn nested(alloc: Global, count: usize) -> Result<Vec<u8>, AllocError> {
+fn nested(alloc: Global, count: usize) -> Result<Vec<u8>, Fail> {
     let mut text = b"class Main { long Run(immutable long[] input) writable { return ".to_vec(
         alloc,
     )?;
     for _ in 0..count {
-        text.push(b'(').map_err(|_| AllocError)?;
+        text.push(b'(')?;
     }
     Ok(text)
 }

@@ -1,27 +1,14 @@
-use crate::parse;
-use perm_lex::{MOST_BYTES, lex};
+//! What `parse` and `print_program` give.
+
+use super::{POINT, short};
+use perm_lex::lex;
+use perm_parse::parse;
 use perm_tree::ast::Perm;
 use perm_tree::errors::ParseError;
 use perm_tree::print::print_program;
 use perm_tree::program::Program;
 use std::alloc::Global;
 use std::test::Fail;
-
-/// A program in its canonical text.
-const POINT: &[u8] = b"class Main {
-  long x;
-  long y;
-  long Run(immutable long[] input) writable {
-    isolated Main p = new Main();
-    p.x = 3;
-    p.y = 4;
-    long a = p.x;
-    long b = p.y;
-    print a + b;
-    return 0;
-  }
-}
-";
 
 /// How many tokens a text has, and whether they are a program.
 #[derive(Drop)]
@@ -32,11 +19,10 @@ struct Parsed {
 
 /// Lexes and parses a text of a test, which is short.
 fn parse_short(alloc: Global, text: &[u8]) -> Result<Parsed, Fail> {
-    let end = text.len().min(MOST_BYTES);
-    let tokens = lex(alloc, &text[..end])?;
+    let tokens = lex(alloc, short(text))?;
     Ok(Parsed {
         count: tokens.len(),
-        answer: parse(alloc, &text[..end], tokens.as_slice()),
+        answer: parse(alloc, short(text), tokens.as_slice()),
     })
 }
 
@@ -50,7 +36,7 @@ fn in_method(alloc: Global, statements: &[u8]) -> Result<Vec<u8>, Fail> {
 
 #[test]
 fn a_program_is_read(rt: HostRuntime) -> Result<(), Fail> {
-    let program = parse_short(rt.alloc(), POINT)?.answer?;
+    let program = parse_short(rt.alloc(), POINT.as_bytes())?.answer?;
     let words: [&[u8]; 9] = [
         b"this", b"Main", b"x", b"y", b"Run", b"input", b"p", b"a", b"b",
     ];
@@ -78,11 +64,11 @@ fn members_are_in_text_order(rt: HostRuntime) -> Result<(), Fail> {
     let methods = program.classes()[0].methods.as_slice();
     assert_eq!(rt; methods.len(), 2);
     assert_eq!(rt; methods[0].name.name, 3);
-    assert_eq!(rt; methods[0].params.as_slice().len(), 2);
+    assert_eq!(rt; methods[0].params.len(), 2);
     assert!(rt; methods[0].receiver == Perm::Immutable);
     assert_eq!(rt; methods[1].name.name, 7);
     assert!(rt; methods[1].receiver == Perm::Isolated);
-    assert_eq!(rt; program.classes()[1].fields.as_slice().len(), 0);
+    assert_eq!(rt; program.classes()[1].fields.len(), 0);
     Ok(())
 }
 
@@ -241,7 +227,7 @@ fn any_tokens_have_an_answer(rt: HostRuntime) -> Result<(), Fail> {
 #[test]
 fn a_program_is_written_in_its_canonical_text(rt: HostRuntime) -> Result<(), Fail> {
     let cases: [(&[u8], &[u8]); 4] = [
-        (POINT, POINT),
+        (POINT.as_bytes(), POINT.as_bytes()),
         (b"class  A{}", b"class A {\n}\n"),
         (
             b"class A{long F()readable{return(-(1-2))*((1-2));}}",
