@@ -26,13 +26,13 @@ pub enum Which {
 }
 
 /// What a run has printed.
-#[derive(Drop)]
+#[derive(Debug, Drop)]
 pub struct RunText {
     pub printed: Numbers,
 }
 
 /// What a call comes to, but for a fault while it is written and want of memory. A refusal has the place at which it stands; that of `NoMain` isn't told. `Done` has the result of `Run`.
-#[derive(Drop)]
+#[derive(Debug, Drop)]
 pub enum Answer {
     Usage,
     ReadFault(Which),

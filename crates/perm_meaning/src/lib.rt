@@ -17,7 +17,7 @@ pub enum End {
 }
 
 /// What a run comes to. `need` is the number of words of all objects made, and `root` the reference to the object of `Main` in `words`. After `HeapFull` both lists are empty and the numbers are 0.
-#[derive(Drop)]
+#[derive(Debug, Drop)]
 pub struct Outcome {
     pub end: End,
     pub printed: Numbers,

@@ -1,6 +1,7 @@
 -- A straight unit from its parts, and its parts from the whole.
-use Rattle.std.proofs.Common.{◌≡◌, ◌∙◌, ◌<◌, ◌≤◌, Bool, true, false, ◌&&◌, List, [], ◌∷◌, Some, Result, Ok, Err, IfOk, ap, arith, get_or, length, refl, subst, sym}
+use Rattle.std.proofs.Common.{◌≡◌, ℕ, ◌∙◌, ◌<◌, ◌≤◌, Bool, true, false, ◌&&◌, List, [], ◌∷◌, Some, Result, Ok, Err, IfOk, ap, arith, get_or, length, refl, subst, sym}
 use Rattle.std.specs.Prelude.{slice_get}
+use Rattle.std.proofs.lemmas.Bool.{and_parts}
 use Rattle.std.proofs.lemmas.Result.{IfOk-weaker}
 use Rattle.perm_tree.specs.declared.ast.ClassDecl.{ClassDecl}
 use Rattle.perm_tree.specs.declared.ast.FieldDecl.{FieldDecl}
@@ -24,10 +25,6 @@ pub single : {X : Type 0} (xs : List X) (x : X) → 1 ≤ length xs → length x
 single [] x least below is = absurd (omega (arith, least))
 single (y ∷ []) x least below is = ap (λ z. z ∷ []) (sym is)
 single (y ∷ z ∷ ys) x least below is = absurd (omega (arith, below))
-
-both-true : (a b : Bool) → (a && b) ≡ true → (a ≡ true) × (b ≡ true)
-both-true true b e = (refl, e)
-both-true false b e = absurd (let no : ⊥ = cc e in no)
 
 module _ (u : Tables) (class : ClassDecl) (run : Method) (table : MethodTable) (one_class : u.program.classes ≡ class ∷ []) (one_method : class.methods ≡ run ∷ []) (one_table : u.tables ≡ table ∷ []) where
   -- the code of a straight unit is that of its one method
@@ -93,8 +90,8 @@ module _ (u : Tables) (p : Listing) (class : ClassDecl) (run : Method) (table : 
   names : IsNamed → (is_class_word u.program main_word class ≡ true) × (is_word u.program.names run_word run.name.name ≡ true) × (is_good_run run ≡ true)
   names named =
       let here = subst (λ (q : Listing). (is_class_word q main_word class && (is_word q.names run_word run.name.name && is_good_run run)) ≡ true) same named in
-      let first = both-true (is_class_word u.program main_word class) (is_word u.program.names run_word run.name.name && is_good_run run) here in
-      let second = both-true (is_word u.program.names run_word run.name.name) (is_good_run run) first.1 in
+      let first = and_parts (is_class_word u.program main_word class) (is_word u.program.names run_word run.name.name && is_good_run run) here in
+      let second = and_parts (is_word u.program.names run_word run.name.name) (is_good_run run) first.1 in
       (first.0, second.0, second.1)
 
   -- the routine with which a run starts
@@ -112,21 +109,21 @@ module _ (u : Tables) (p : Listing) (class : ClassDecl) (run : Method) (table : 
     of_run = of_run;
   })
 
-  pub whole-decides : {E : Type 0} (fields : List FieldDecl) (vars : List VarInfo) (r : Result Bool E)
+  pub whole-decides : {E : Type 0} (fields : List FieldDecl) (vars : ℕ) (r : Result Bool E)
       → fields ≡ class.fields
-      → vars ≡ table.vars
+      → vars ≡ length table.vars
       → IsNamed
       → AllLong fields
       → AllStraight p.stmts
       → table.class ≡ 0
       → table.«method» ≡ 0
       → (length class.fields ≤ 256) × (length table.vars ≤ 256) × (length run.body.stmts ≤ 1048576)
-      → IfOk r (λ b. (first : Routine) → slice_get (code_of u).routines (code_of u).run ≡ Some first → IsWhether b (IsStraightCode (length fields) (length vars) (Other ∷ Other ∷ []) first.code))
+      → IfOk r (λ b. (first : Routine) → slice_get (code_of u).routines (code_of u).run ≡ Some first → IsWhether b (IsStraightCode (length fields) vars (Other ∷ Other ∷ []) first.code))
       → IfOk r (λ b. IsWhether b (IsStraight u))
   whole-decides fields vars r of_class of_table named numbers statements of_main of_run small told =
-      let decided = IfOk-weaker r _ (λ b. IsWhether b (IsStraightCode (length fields) (length vars) (Other ∷ Other ∷ []) (routine u table run).code))
+      let decided = IfOk-weaker r _ (λ b. IsWhether b (IsStraightCode (length fields) vars (Other ∷ Other ∷ []) (routine u table run).code))
       (λ b h. h (routine u table run) (whole-routine named of_main of_run)) told in
-      let with_fields = subst (λ (fs : List FieldDecl). IfOk r (λ b. IsWhether b (IsStraightCode (length fs) (length vars) (Other ∷ Other ∷ []) (routine u table run).code))) of_class decided in
-      let with_vars = subst (λ (vs : List VarInfo). IfOk r (λ b. IsWhether b (IsStraightCode (length class.fields) (length vs) (Other ∷ Other ∷ []) (routine u table run).code))) of_table with_fields in
+      let with_fields = subst (λ (fs : List FieldDecl). IfOk r (λ b. IsWhether b (IsStraightCode (length fs) vars (Other ∷ Other ∷ []) (routine u table run).code))) of_class decided in
+      let with_vars = subst (λ n. IfOk r (λ b. IsWhether b (IsStraightCode (length class.fields) n (Other ∷ Other ∷ []) (routine u table run).code))) of_table with_fields in
       code-decides u class run table (subst (λ (q : Listing). q.classes ≡ class ∷ []) same one_class) one_method one_table r (names named).0 (names named).1 (names named).2
       (subst (λ (l : List FieldDecl). AllLong l) of_class numbers) (subst (λ (q : Listing). AllStraight q.stmts) same statements) of_main of_run small with_vars

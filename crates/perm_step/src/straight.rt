@@ -62,16 +62,16 @@ pub fn is_straight(alloc: Global, unit: &Unit) -> Result<bool, NoMemory>
     if !all_long(fields) || !all_straight(program.stmts()) {
         return Ok(false);
     }
-    runs_straight(alloc, unit, fields.len(), table.vars.as_slice().len())
+    runs_straight(alloc, unit, fields.len(), table.vars.len())
 }
 
 /// Whether there is no more of anything than a text can hold.
 fn is_small(class: &ClassDecl, table: &MethodTable, run: &Method) -> bool
     ensures { IsWhether result ((length class.now.fields ≤ 256) × (length table.now.vars ≤ 256) × (length run.now.body.stmts ≤ 1048576)) }
 {
-    class.fields.as_slice().len() <= MOST_NAMES
-        && table.vars.as_slice().len() <= MOST_NAMES
-        && run.body.stmts.as_slice().len() <= MOST_STATEMENTS
+    class.fields.len() <= MOST_NAMES
+        && table.vars.len() <= MOST_NAMES
+        && run.body.stmts.len() <= MOST_STATEMENTS
 }
 
 /// Whether the names are `Main` and `Run`, and `Run` has its types.

@@ -7,7 +7,6 @@ use Rattle.perm_tree.specs.declared.ast.Ident.{Ident}
 use Rattle.perm_tree.specs.Names.{Complaint, double_at, doubles, earlier, is_before, later}
 use Rattle.perm_table.specs.Findings.{double_with, doubles_of, first_before, first_named, sooner}
 use Rattle.perm_table.proofs.FirstFindings.{first_before-append}
-use Rattle.perm_table.proofs.FirstPlaces.{drop-before}
 
 -- ---------- the order of complaints ----------
 order-before : (a b c p q r : ℕ) → nat_lt a b || (nat_eq a b && nat_le p q) ≡ true → nat_lt b c || (nat_eq b c && nat_le q r) ≡ true → nat_lt a c || (nat_eq a c && nat_le p r) ≡ true
@@ -91,36 +90,23 @@ first-tells i (j ∷ is) rest = cases (nat_eq i.name j.name) (nat_eq j.name i.na
     cases false false e so_far = so_far
 
 -- ---------- a walk from the last name to the first ----------
--- what a map has of the names behind a place, and what was found of them
-pub record AreDoubles (names : List Ident) (rest : Option Complaint) (at : ℕ) (of : ℕ → Option Ident) (first : Option Complaint) : Type 0 where
-  pub within : at ≤ length names
-  pub firsts : (n : ℕ) → of n ≡ first_named n (drop at names)
-  pub found : first ≡ first_before (doubles (drop at names)) rest
+-- what a map has of the names met so far, and what was found of them
+pub record AreDoubles (behind : List Ident) (rest : Option Complaint) (of : ℕ → Option Ident) (first : Option Complaint) : Type 0 where
+  pub firsts : (n : ℕ) → of n ≡ first_named n behind
+  pub found : first ≡ first_before (doubles behind) rest
 
 -- one name more
-pub doubles-more : (names : List Ident) (rest first more : Option Complaint) (at : ℕ) (d : Ident) (old new : ℕ → Option Ident) → 0 < at → AreDoubles names rest at old first
-    → ((n : ℕ) → new n ≡ cond (nat_eq (get_or names (at - 1) d).name n) (Some (sooner (get_or names (at - 1) d) (old (get_or names (at - 1) d).name))) (old n))
-    → more ≡ first_before (double_with (get_or names (at - 1) d) (old (get_or names (at - 1) d).name)) first → AreDoubles names rest (at - 1) new more
-doubles-more names rest first more at d old new some known now finds = record {
-  within = let le = known.within in omega arith;
-  firsts = λ n. now n ∙ one n (nat_eq i.name n) refl ∙ ap (first_named n) (sym split);
+pub doubles-more : (i : Ident) (behind : List Ident) (rest first more : Option Complaint) (old new : ℕ → Option Ident) → AreDoubles behind rest old first
+    → ((n : ℕ) → new n ≡ cond (nat_eq i.name n) (Some (sooner i (old i.name))) (old n)) → more ≡ first_before (double_with i (old i.name)) first → AreDoubles (i ∷ behind) rest new more
+doubles-more i behind rest first more old new known now finds = record {
+  firsts = λ n. now n ∙ one n (nat_eq i.name n) refl;
   found =
       finds
       ∙ (λ j. first_before (double_with i (known.firsts i.name j)) (known.found j))
       ∙ sym (first-tells i behind (first_before (doubles behind) rest))
-      ∙ sym (first_before-append (doubles_of i behind) (doubles behind) rest)
-      ∙ ap (λ is. first_before (doubles is) rest) (sym split);
+      ∙ sym (first_before-append (doubles_of i behind) (doubles behind) rest);
 }
   where
-    i : Ident
-    i = get_or names (at - 1) d
-
-    behind : List Ident
-    behind = drop at names
-
-    split : drop (at - 1) names ≡ i ∷ behind
-    split = drop-before names at d some known.within
-
     one : (n : ℕ) (b : Bool) → nat_eq i.name n ≡ b → cond b (Some (sooner i (old i.name))) (old n) ≡ (if b then Some (sooner i (first_named n behind)) else first_named n behind)
     one n true e =
         let same : i.name ≡ n = eqb-true i.name n e in

@@ -1,7 +1,7 @@
 -- The first of refusals that are met from the last to the first.
-use Rattle.std.proofs.Common.{◌≡◌, ℕ, ◌-◌, ◌<◌, ◌≤◌, Bool, List, [], ◌∷◌, ◌++◌, length, Option, Some, None, refl, sym, ap, drop, get_or, ◌∙◌}
+use Rattle.std.proofs.Common.{◌≡◌, ℕ, ◌-◌, ◌<◌, ◌≤◌, Bool, List, [], ◌∷◌, ◌++◌, length, Option, Some, None, refl, reverse, sym, ap, drop, get_or, ◌∙◌}
 use Rattle.std.specs.Prelude.{not, map, filter, flat_map, Result, IfOk}
-use Rattle.std.proofs.lemmas.List.{map-append}
+use Rattle.std.proofs.lemmas.List.{map-append, reverse-append}
 use Rattle.std.proofs.lemmas.List.Elements.{filter-append}
 use Rattle.std.proofs.lemmas.Result.{IfOk-weaker}
 use Rattle.perm_tree.specs.declared.ast.Ident.{Ident}
@@ -15,7 +15,6 @@ use Rattle.perm_tree.specs.Names.{Complaint, class_mentions, class_names, double
 use Rattle.perm_tree.specs.Places.{Listing}
 use Rattle.perm_table.specs.declared.refusals.Finding.{Finding}
 use Rattle.perm_table.specs.Findings.{findings, first_before, told_if, unknowns_by}
-use Rattle.perm_table.proofs.FirstPlaces.{drop-before}
 
 pub first_before-append : (cs ds : List Complaint) (rest : Option Complaint) → first_before (cs ++ ds) rest ≡ first_before cs (first_before ds rest)
 first_before-append [] ds rest = refl
@@ -25,16 +24,20 @@ pub first_before-none : (cs : List Complaint) → first_before cs None ≡ first
 first_before-none [] = refl
 first_before-none (c ∷ cs) = ap (λ o. Some (earlier c o)) (first_before-none cs)
 
+-- the items that came last are at the front of the reversed list
+pub reversed-one : {R A : Type 0} (now : R → A) (ys : List R) (x : R) → reverse (map now (ys ++ x ∷ [])) ≡ now x ∷ reverse (map now ys)
+reversed-one now ys x = ap reverse (map-append now ys (x ∷ [])) ∙ reverse-append (map now ys) (now x ∷ [])
+
 -- one more at the front of a list of which each element has its refusals
-pub one-more : {A : Type 0} (f : List A → List Complaint) (g : A → List Complaint) (xs : List A) (at : ℕ) (x d : A) (rest first more : Option Complaint)
-    → ((y : A) (ys : List A) → f (y ∷ ys) ≡ g y ++ f ys) → x ≡ get_or xs (at - 1) d → 0 < at → at ≤ length xs
-    → first ≡ first_before (f (drop at xs)) rest → more ≡ first_before (g x) first → more ≡ first_before (f (drop (at - 1) xs)) rest
-one-more f g xs at x d rest first more split is some le so_far now =
-    now
-    ∙ (λ j. first_before (g (is j)) (so_far j))
-    ∙ sym (first_before-append (g (get_or xs (at - 1) d)) (f (drop at xs)) rest)
-    ∙ ap (λ cs. first_before cs rest) (sym (split (get_or xs (at - 1) d) (drop at xs)))
-    ∙ ap (λ ys. first_before (f ys) rest) (sym (drop-before xs at d some le))
+pub one-more : {R A : Type 0} (now : R → A) (f : List A → List Complaint) (g : A → List Complaint) (ys : List R) (x : R) (rest first more : Option Complaint)
+    → ((a : A) (bs : List A) → f (a ∷ bs) ≡ g a ++ f bs) → first ≡ first_before (f (reverse (map now ys))) rest → more ≡ first_before (g (now x)) first
+    → more ≡ first_before (f (reverse (map now (ys ++ x ∷ [])))) rest
+one-more now f g ys x rest first more split so_far adds =
+    adds
+    ∙ ap (first_before (g (now x))) so_far
+    ∙ sym (first_before-append (g (now x)) (f (reverse (map now ys))) rest)
+    ∙ ap (λ cs. first_before cs rest) (sym (split (now x) (reverse (map now ys))))
+    ∙ ap (λ bs. first_before (f bs) rest) (sym (reversed-one now ys x))
 
 -- ---------- groups ----------
 -- where a last call's answer is handed on, what it tells is

@@ -26,9 +26,7 @@ impl ClassNumbers {
     {
         let count = number(classes.len())?;
         let mut places = IndexMap::new(alloc);
-        let mut at = count;
-        'places: while at > 0 {
-            at -= 1;
+        'places: for at in (0..count).rev() {
             places.insert(classes[at as usize].name.name, at)?;
         }
         Ok(ClassNumbers { places, count })

@@ -84,13 +84,10 @@ fn doubles(
 {
     let mut first = rest;
     let mut firsts = IndexMap::new(alloc);
-    let mut at = names.len();
-    'names: while at > 0 {
-        at -= 1;
-        let name = names[at];
+    'names: for name in names.iter().rev() {
         let equal = firsts.get(&name.name).copied();
-        first = double_with(name, equal, first);
-        firsts.insert(name.name, sooner(name, equal))?;
+        first = double_with(*name, equal, first);
+        firsts.insert(name.name, sooner(*name, equal))?;
     }
     Ok(first)
 }
@@ -129,23 +126,28 @@ fn passing(limit: Limit, names: &[Ident], rest: Option<Finding>) -> Option<Findi
 fn field_names(alloc: Global, class: &ClassDecl) -> Result<Vec<Ident>, NoMemory>
     ensures { IfOk result (λ v. v.items ≡ field_names class.now) }
 {
-    let fields = class.fields.as_slice();
-    Ok(fields.iter().map(|field| field.name).collect(alloc)?)
+    Ok(class.fields.iter().map(|field| field.name).collect(alloc)?)
 }
 
 fn method_names(alloc: Global, class: &ClassDecl) -> Result<Vec<Ident>, NoMemory>
     ensures { IfOk result (λ v. v.items ≡ method_names class.now) }
 {
-    let methods = class.methods.as_slice();
-    Ok(methods.iter().map(|method| method.name).collect(alloc)?)
+    Ok(
+        class
+            .methods
+            .iter()
+            .map(|method| method.name)
+            .collect(alloc)?,
+    )
 }
 
 fn var_names(alloc: Global, table: &MethodTable) -> Result<Vec<Ident>, NoMemory>
     ensures { IfOk result (λ v. v.items ≡ var_names table.now) }
 {
-    let vars = table.vars.as_slice();
     Ok(
-        vars.iter()
+        table
+            .vars
+            .iter()
             .map(|var| Ident {
                 name: var.name,
                 span: var.declared,
@@ -201,10 +203,8 @@ fn in_classes(
     ensures { IfOk result (λ f. told_if f ≡ first_before (flat_map in_class classes.now) (told_if rest)) }
 {
     let mut first = rest;
-    let mut at = classes.len();
-    'classes: while at > 0 {
-        at -= 1;
-        first = in_class(alloc, &classes[at], first)?;
+    'classes: for class in classes.iter().rev() {
+        first = in_class(alloc, class, first)?;
     }
     Ok(first)
 }
@@ -217,10 +217,8 @@ fn in_methods(
     ensures { IfOk result (λ f. told_if f ≡ first_before (flat_map in_method tables.now) (told_if rest)) }
 {
     let mut first = rest;
-    let mut at = tables.len();
-    'tables: while at > 0 {
-        at -= 1;
-        first = in_method(alloc, &tables[at], first)?;
+    'tables: for table in tables.iter().rev() {
+        first = in_method(alloc, table, first)?;
     }
     Ok(first)
 }
@@ -244,10 +242,8 @@ fn in_mentions(numbers: &ClassNumbers, names: &[Ident], rest: Option<Finding>) -
     ensures { told_if result ≡ first_before (unknowns_by (knows_in numbers.now) names.now) (told_if rest) }
 {
     let mut first = rest;
-    let mut at = names.len();
-    'names: while at > 0 {
-        at -= 1;
-        first = mentioned(numbers, names[at], first);
+    'names: for name in names.iter().rev() {
+        first = mentioned(numbers, *name, first);
     }
     first
 }
@@ -284,10 +280,8 @@ fn in_stmts(numbers: &ClassNumbers, stmts: &[Stmt], rest: Option<Finding>) -> Op
     ensures { told_if result ≡ first_before (unknowns_by (knows_in numbers.now) (flat_map (λ s. made_class s.kind) stmts.now)) (told_if rest) }
 {
     let mut first = rest;
-    let mut at = stmts.len();
-    'stmts: while at > 0 {
-        at -= 1;
-        first = in_stmt(numbers, &stmts[at], first);
+    'stmts: for stmt in stmts.iter().rev() {
+        first = in_stmt(numbers, stmt, first);
     }
     first
 }

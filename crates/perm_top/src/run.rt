@@ -39,7 +39,7 @@ const WRITE_FAULT: u8 = 5;
 const UNBUILT: u8 = 9;
 
 /// What a call comes to. `Unbuilt` is a program without a fault so far, for which no run is built.
-#[derive(Drop)]
+#[derive(Debug, Drop)]
 pub enum Reply {
     Told(Answer),
     Unbuilt,

@@ -10,7 +10,7 @@ pub struct Span {
 }
 
 /// What a reference allows, and what it promises of others.
-#[derive(Clone, Copy, PartialEq, Eq)]
+#[derive(Clone, Copy, Debug, PartialEq, Eq)]
 pub enum Perm {
     Isolated,
     Immutable,
@@ -19,13 +19,13 @@ pub enum Perm {
 }
 
 /// What a reference refers to. Before names are resolved the number is that of the class's name, and then that of the class.
-#[derive(Clone, Copy, PartialEq, Eq)]
+#[derive(Clone, Copy, Debug, PartialEq, Eq)]
 pub enum Shape {
     Class(u32),
     Array,
 }
 
-#[derive(Clone, Copy, PartialEq, Eq)]
+#[derive(Clone, Copy, Debug, PartialEq, Eq)]
 pub enum Ty {
     Long,
     Bool,
@@ -33,26 +33,26 @@ pub enum Ty {
 }
 
 /// A name where it stands: its number among the program's names, of which number 0 is `this`.
-#[derive(Clone, Copy)]
+#[derive(Clone, Copy, Debug)]
 pub struct Ident {
     pub name: u32,
     pub span: Span,
 }
 
 /// A field, or a parameter.
-#[derive(Clone, Copy)]
+#[derive(Clone, Copy, Debug)]
 pub struct FieldDecl {
     pub ty: Ty,
     pub name: Ident,
 }
 
-#[derive(Clone, Copy, PartialEq, Eq)]
+#[derive(Clone, Copy, Debug, PartialEq, Eq)]
 pub enum UnaryOp {
     Minus,
     Not,
 }
 
-#[derive(Clone, Copy, PartialEq, Eq)]
+#[derive(Clone, Copy, Debug, PartialEq, Eq)]
 pub enum BinaryOp {
     Mul,
     Div,
@@ -70,7 +70,7 @@ pub enum BinaryOp {
 }
 
 /// An expression, whose operands are places of expressions.
-#[derive(Clone, Copy)]
+#[derive(Clone, Copy, Debug)]
 pub enum Expr {
     Number(i64),
     Bool(bool),
@@ -81,14 +81,14 @@ pub enum Expr {
 }
 
 /// A value that is handed over: an expression's, or that of a variable which is consumed.
-#[derive(Clone, Copy)]
+#[derive(Clone, Copy, Debug)]
 pub enum Arg {
     Expr(u32),
     Consume(Ident),
 }
 
 /// A call, whose receiver `on` may be consumed.
-#[derive(Drop)]
+#[derive(Debug, Drop)]
 pub struct Call {
     pub consumed: bool,
     pub on: Ident,
@@ -97,13 +97,13 @@ pub struct Call {
 }
 
 /// The places of a block's statements, in order.
-#[derive(Drop)]
+#[derive(Debug, Drop)]
 pub struct Block {
     pub stmts: List<u32>,
 }
 
 /// The right side of an assignment. That of a `recover` has its block, the given variable, and the span of `give w;`.
-#[derive(Drop)]
+#[derive(Debug, Drop)]
 pub enum Rhs {
     Value(Arg),
     Field(Ident, Ident),
@@ -115,7 +115,7 @@ pub enum Rhs {
     Recover(Block, Ident, Span),
 }
 
-#[derive(Drop)]
+#[derive(Debug, Drop)]
 pub enum StmtKind {
     Declare(Ty, Ident),
     Assign(Option<Ty>, Ident, Rhs),
@@ -129,7 +129,7 @@ pub enum StmtKind {
 }
 
 /// A statement. `head` is the stretch that a refusal or a trap of its first part names: the whole simple statement, or the head of one with blocks.
-#[derive(Drop)]
+#[derive(Debug, Drop)]
 pub struct Stmt {
     pub span: Span,
     pub head: Span,
@@ -137,7 +137,7 @@ pub struct Stmt {
 }
 
 /// A method; `span` is that of its `return` with the `;`.
-#[derive(Drop)]
+#[derive(Debug, Drop)]
 pub struct Method {
     pub result: Ty,
     pub name: Ident,
@@ -148,7 +148,7 @@ pub struct Method {
     pub span: Span,
 }
 
-#[derive(Drop)]
+#[derive(Debug, Drop)]
 pub struct ClassDecl {
     pub name: Ident,
     pub fields: List<FieldDecl>,

@@ -5,7 +5,7 @@ use crate::list::List;
 use crate::var_set::VarSet;
 
 /// What an operation works on: a constant, the variable with this number in its method, or the value of an earlier operation of the same expression, by its place there.
-#[derive(Clone, Copy)]
+#[derive(Clone, Copy, Debug)]
 pub enum Operand {
     Number(i64),
     Bool(bool),
@@ -15,14 +15,14 @@ pub enum Operand {
 }
 
 /// One operator with its operands.
-#[derive(Clone, Copy)]
+#[derive(Clone, Copy, Debug)]
 pub enum Operation {
     Unary(UnaryOp, Operand),
     Binary(BinaryOp, Operand, Operand),
 }
 
 /// An expression: one operand, one operation, or some operations of the unit's list, from a first one on, of which the last gives the value.
-#[derive(Clone, Copy)]
+#[derive(Clone, Copy, Debug)]
 pub enum Expression {
     Operand(Operand),
     Operation(Operation),
@@ -30,14 +30,14 @@ pub enum Expression {
 }
 
 /// A value that is handed over: an expression's, or that of a variable which is consumed.
-#[derive(Clone, Copy)]
+#[derive(Clone, Copy, Debug)]
 pub enum Argument {
     Expression(Expression),
     Consume(u32),
 }
 
 /// A call: where its result goes, its receiver, the number of the method in the unit, and its arguments, as a stretch of the unit's list.
-#[derive(Clone, Copy)]
+#[derive(Clone, Copy, Debug)]
 pub struct Invocation {
     pub into: Option<u32>,
     pub consumed: bool,
@@ -48,7 +48,7 @@ pub struct Invocation {
 }
 
 /// What a step does. Variables, fields, classes and methods are their numbers; the assigned variable comes first.
-#[derive(Clone, Copy)]
+#[derive(Clone, Copy, Debug)]
 pub enum Action {
     Declare(u32),
     Assign(u32, Argument),
@@ -78,7 +78,7 @@ pub enum Action {
 }
 
 /// A step of a method, with the stretch of the text that a trap names and the place of the step that comes next. `Return` and `End` have none that comes next.
-#[derive(Clone, Copy)]
+#[derive(Clone, Copy, Debug)]
 pub struct Step {
     pub span: Span,
     pub next: u32,
@@ -86,21 +86,21 @@ pub struct Step {
 }
 
 /// The variables that the two blocks of a par assign or consume.
-#[derive(Clone, Copy)]
+#[derive(Clone, Copy, Debug)]
 pub struct Sides {
     pub left: VarSet,
     pub right: VarSet,
 }
 
 /// Where a method begins, and how many variables it has.
-#[derive(Clone, Copy)]
+#[derive(Clone, Copy, Debug)]
 pub struct Entry {
     pub first: u32,
     pub variables: u32,
 }
 
 /// The bodies of all methods of a unit, which are numbered in text order.
-#[derive(Drop)]
+#[derive(Debug, Drop)]
 pub struct Bodies {
     pub operations: List<Operation>,
     pub arguments: List<Argument>,

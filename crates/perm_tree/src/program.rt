@@ -12,7 +12,7 @@ use std::alloc::Global;
 use std::marker::Model;
 
 /// A program, as flat lists in which a statement or an expression is named by its place.
-#[derive(Drop)]
+#[derive(Debug, Drop)]
 pub struct Program {
     names: List<Name>,
     classes: List<ClassDecl>,
@@ -36,7 +36,7 @@ impl Model for Program {
 }
 
 /// The parts of a program that name classes.
-#[derive(Drop)]
+#[derive(Debug, Drop)]
 pub struct Parts {
     pub classes: List<ClassDecl>,
     pub stmts: List<Stmt>,
@@ -44,7 +44,7 @@ pub struct Parts {
 }
 
 /// A program that is being built. Nothing is asked of its names and spans until it is finished.
-#[derive(Drop)]
+#[derive(Debug, Drop)]
 pub struct ProgramBuilder {
     names: List<Name>,
     classes: List<ClassDecl>,
@@ -171,7 +171,7 @@ impl ProgramBuilder {
         ensures ok { IfOk result (λ at. (at ≡ length self.old.names) × (self.new ≡ record self.old { names = self.old.names ++ name ∷ [] })) }
         ensures err { OnErr result (self.new ≡ self.old) }
     {
-        let at = place(self.names.as_slice().len())?;
+        let at = place(self.names.len())?;
         self.names.push(name)?;
         Ok(at)
     }
@@ -181,7 +181,7 @@ impl ProgramBuilder {
         ensures ok { IfOk result (λ at. (at ≡ length self.old.classes) × (self.new ≡ record self.old { classes = self.old.classes ++ class ∷ [] })) }
         ensures err { OnErr result (self.new ≡ self.old) }
     {
-        let at = place(self.classes.as_slice().len())?;
+        let at = place(self.classes.len())?;
         self.classes.push(class)?;
         Ok(at)
     }
@@ -192,7 +192,7 @@ impl ProgramBuilder {
         ensures ok { IfOk result (λ at. (at ≡ length self.old.stmts) × (self.new ≡ record self.old { stmts = self.old.stmts ++ stmt ∷ [] })) }
         ensures err { OnErr result (self.new ≡ self.old) }
     {
-        let at = place(self.stmts.as_slice().len())?;
+        let at = place(self.stmts.len())?;
         self.stmts.push(stmt)?;
         Ok(at)
     }
@@ -211,7 +211,7 @@ impl ProgramBuilder {
         ensures ok { IfOk result (λ at. (at ≡ length self.old.exprs) × (self.new ≡ record self.old { exprs = self.old.exprs ++ expr ∷ [] })) }
         ensures err { OnErr result (self.new ≡ self.old) }
     {
-        let at = place(self.exprs.as_slice().len())?;
+        let at = place(self.exprs.len())?;
         let low = low_among(self.lows.as_slice(), at, expr);
         self.lows.reserve(1)?;
         self.exprs.push(expr)?;

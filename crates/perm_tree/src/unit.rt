@@ -14,7 +14,7 @@ use indexmap::IndexMap;
 use std::marker::Model;
 
 /// A variable of a method. It is known at the names that begin in its scope.
-#[derive(Clone, Copy)]
+#[derive(Clone, Copy, Debug)]
 pub struct VarInfo {
     pub name: u32,
     pub ty: Ty,
@@ -23,7 +23,7 @@ pub struct VarInfo {
 }
 
 /// The variables of a method, which is named by its place among those of its class: `this`, the parameters, the locals in text order.
-#[derive(Drop)]
+#[derive(Debug, Drop)]
 pub struct MethodTable {
     pub class: u32,
     pub method: u32,
@@ -31,7 +31,7 @@ pub struct MethodTable {
 }
 
 /// A program with the tables and the bodies of its methods, in text order. The place of a table is the method's number.
-#[derive(Drop)]
+#[derive(Debug, Drop)]
 pub struct Unit {
     program: Program,
     classes: IndexMap<Name, u32>,

@@ -36,10 +36,8 @@ pub fn number_block(
 {
     let mut first = next;
     let mut written = VarSet::new();
-    let mut left = stmts.len();
-    while left > 0 {
-        left -= 1;
-        let stmt = number_stmt(alloc, bodies, names, place(below, stmts, left), first)?;
+    for at in (0..stmts.len()).rev() {
+        let stmt = number_stmt(alloc, bodies, names, place(below, stmts, at), first)?;
         first = stmt.first;
         written = written.union(stmt.written);
     }

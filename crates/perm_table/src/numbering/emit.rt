@@ -20,7 +20,7 @@ pub fn emit(bodies: &mut Bodies, span: Span, next: u32, action: Action) -> Resul
     ensures place { IfOk result (λ at. at ≡ length bodies.old.steps) }
     ensures bodies { IfOk result (λ _. bodies.new ≡ record bodies.old { steps = bodies.old.steps ++ record { span = span; next = next; action = action } ∷ [] }) }
 {
-    let at = number(bodies.steps.as_slice().len())?;
+    let at = number(bodies.steps.len())?;
     bodies.steps.push(Step { span, next, action })?;
     Ok(at)
 }
@@ -38,7 +38,7 @@ pub fn add_sides(bodies: &mut Bodies, sides: Sides) -> Result<u32, NoMemory>
     ensures place { IfOk result (λ at. at ≡ length bodies.old.sides) }
     ensures bodies { IfOk result (λ _. bodies.new ≡ record bodies.old { sides = bodies.old.sides ++ sides ∷ [] }) }
 {
-    let at = number(bodies.sides.as_slice().len())?;
+    let at = number(bodies.sides.len())?;
     bodies.sides.push(sides)?;
     Ok(at)
 }

@@ -152,7 +152,7 @@ fn with_operation(
     if operations.is_empty() {
         return Ok(Expression::Operation(operation));
     }
-    let first = number(bodies.operations.as_slice().len())?;
+    let first = number(bodies.operations.len())?;
     let mut operations = operations;
     operations.push(operation)?;
     let count = number(operations.len())?;

@@ -43,7 +43,7 @@ fn first_methods(alloc: Global, classes: &[ClassDecl]) -> Result<Vec<u32>, NoMem
     let mut before = 0;
     'classes: for class in classes {
         firsts.push(before)?;
-        before = number(before as usize + class.methods.as_slice().len())?;
+        before = number(before as usize + class.methods.len())?;
     }
     Ok(firsts)
 }
@@ -220,7 +220,7 @@ fn fields_of(program: &Program, at: u32) -> usize
     ensures { result ≡ field_count (slice_get program.now.classes at) }
 {
     match program.classes().get(at as usize) {
-        Some(class) => class.fields.as_slice().len(),
+        Some(class) => class.fields.len(),
         None => 0,
     }
 }

@@ -53,7 +53,7 @@ pub fn main_fields(program: &Program) -> usize
     ensures { MainHas program.now result }
 {
     match program.classes().get(main_place(program)) {
-        Some(class) => class.fields.as_slice().len(),
+        Some(class) => class.fields.len(),
         None => 0,
     }
 }

@@ -190,8 +190,8 @@ fn number_call(
 {
     let receiver = names.variable(call.on)?;
     let routine = names.routine(call.on, call.method)?;
-    let first = number(bodies.arguments.as_slice().len())?;
-    let count = number(call.args.as_slice().len())?;
+    let first = number(bodies.arguments.len())?;
+    let count = number(call.args.len())?;
     number_arguments(alloc, bodies, names, call.args.as_slice())?;
     Ok(Action::Invoke(Invocation {
         into,

@@ -31,26 +31,26 @@ number_assignment-returns-in_ok-x-in-Recover t c =
     recover-answer (setting_of names) c.args.bodies.now c.number_recover.new.bodies c.args.next c.args.stmt.now c.args.x c.in-Recover.w c.in_ok-x-in-Recover.x c.in_ok-w-in-Recover.w c.in-Recover.block c.in-Recover.give c.args.rhs.now
     c.number_recover.result c.requires.is c.in-Recover.is c.in_ok-x-in-Recover.ensures c.in_ok-w-in-Recover.ensures c.number_recover.ensures
 
-pub number_block-loop-left-init : goal.number_block-loop-left-init
-number_block-loop-left-init t c =
+pub number_block-loop-at-init : goal.number_block-loop-at-init
+number_block-loop-at-init t c =
     let names = c.args.names.now in
     (omega arith, emitted-none (setting_of names) c.args.bodies.now c.args.next c.args.stmts.now c.new-written.result c.requires.next c.new-written.ensures)
 
-pub number_block-loop-left-preserved : goal.number_block-loop-left-preserved
-number_block-loop-left-preserved t c =
+pub number_block-loop-at-preserved : goal.number_block-loop-at-preserved
+number_block-loop-at-preserved t c =
     let names = c.args.names.now in
-    let one : IsEmitted (setting_of names) c.args.bodies.now c.args.next c.loop-left.bodies (block_code (setting_of names) (drop c.loop-left.left c.args.stmts.now)) (record { first = c.loop-left.first; written = c.loop-left.written }) =
-    c.loop-left.invariant.1 in (
-      omega (arith, c.loop-left.invariant.0),
-      emitted-more (setting_of names) c.args.bodies.now c.loop-left.bodies c.number_stmt.new.bodies c.args.next c.args.stmts.now c.loop-left.left c.place.result (record { first = c.loop-left.first; written = c.loop-left.written }) c.in_ok-stmt.stmt c.union-written.result
-          c.loop-left-test.true c.loop-left.invariant.0 c.place.ensures.place one c.in_ok-stmt.ensures c.union-written.ensures,
+    let one : IsEmitted (setting_of names) c.args.bodies.now c.args.next c.loop-at.bodies (block_code (setting_of names) (drop c.loop-at.at c.args.stmts.now)) (record { first = c.loop-at.first; written = c.loop-at.written }) =
+    c.loop-at.invariant.1 in (
+      omega (arith, c.loop-at.invariant.0),
+      emitted-more (setting_of names) c.args.bodies.now c.loop-at.bodies c.number_stmt.new.bodies c.args.next c.args.stmts.now c.loop-at.at c.place.result (record { first = c.loop-at.first; written = c.loop-at.written }) c.in_ok-stmt.stmt c.union-written.result
+          c.loop-at-test.true c.loop-at.invariant.0 c.place.ensures.place one c.in_ok-stmt.ensures c.union-written.ensures,
     )
 
 pub number_block-returns : goal.number_block-returns
 number_block-returns t c =
     let names = c.args.names.now in
-    let none_left : c.loop-left.left ≡ 0 = omega (arith, c.loop-left-test.false) in
-    subst (λ n. IsEmitted (setting_of names) c.args.bodies.now c.args.next c.loop-left.bodies (block_code (setting_of names) (drop n c.args.stmts.now)) (record { first = c.loop-left.first; written = c.loop-left.written })) none_left c.loop-left.invariant.1
+    let none_left : c.loop-at.at ≡ 0 = omega (arith, c.loop-at-test.false) in
+    subst (λ n. IsEmitted (setting_of names) c.args.bodies.now c.args.next c.loop-at.bodies (block_code (setting_of names) (drop n c.args.stmts.now)) (record { first = c.loop-at.first; written = c.loop-at.written })) none_left c.loop-at.invariant.1
 
 pub number_braced-returns : goal.number_braced-returns
 number_braced-returns t c =

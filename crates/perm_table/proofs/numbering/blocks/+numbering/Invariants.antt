@@ -31,9 +31,6 @@ decreases-number_assignment l = 6 * l.at + 4
 abbrev pub decreases-number_stmt : goal.decreases-number_stmt
 decreases-number_stmt l = 6 * l.at + 5
 
-abbrev pub decreases-number_block-loop-left : goal.decreases-number_block-loop-left
-decreases-number_block-loop-left l = l.left
-
-abbrev pub invariant-number_block-loop-left : goal.invariant-number_block-loop-left
-invariant-number_block-loop-left l =
-    (l.left ≤ length l.stmts) × IsEmitted (setting_of l.names) l.initial.bodies l.next l.bodies (block_code (setting_of l.names) (drop l.left l.stmts)) (record { first = l.first; written = l.written })
+abbrev pub invariant-number_block-loop-at : goal.invariant-number_block-loop-at
+invariant-number_block-loop-at l =
+    (l.at ≤ length l.stmts) × IsEmitted (setting_of l.names) l.initial.bodies l.next l.bodies (block_code (setting_of l.names) (drop l.at l.stmts)) (record { first = l.first; written = l.written })

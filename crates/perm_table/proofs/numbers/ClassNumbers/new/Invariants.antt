@@ -5,6 +5,3 @@ use Rattle.perm_table.proofs.numbers.ClassNumbers.new.Given as goal
 
 abbrev pub invariant-places : goal.invariant-places
 invariant-places l = (l.at ≤ length l.classes) × ((name : ℕ) → get nat_eq l.places name ≡ place_from l.at (drop l.at l.classes) name)
-
-abbrev pub decreases-places : goal.decreases-places
-decreases-places l = l.at

@@ -7,7 +7,7 @@ use Rattle.perm_tree.proofs.Pushes.{more_exprs}
 use Rattle.perm_tree.proofs.program.ProgramBuilder.push_expr.Goals as goal
 
 pub low_among-low-requires-clause-count : goal.low_among-low-requires-clause-count
-low_among-low-requires-clause-count c = omega (arith, c.in_ok-at.ensures, length-lows_of c.self.inside.exprs, ap length c.self.invariant.1, ap length c.as_slice.ensures, ap length c.as_slice-2.ensures.value)
+low_among-low-requires-clause-count c = omega (arith, c.in_ok-at.ensures, length-lows_of c.self.inside.exprs, ap length c.self.invariant.1, c.len.ensures, ap length c.as_slice.ensures.value)
 
 pub invariant_of-self-2 : goal.invariant_of-self-2
 invariant_of-self-2 c =
@@ -15,5 +15,5 @@ invariant_of-self-2 c =
     let P : List Expr → Type 0 = λ l. IsPlaced (record p { exprs = l }) in
     let fits : ExprBelow (length p.exprs) c.args.expr = subst (λ (v : Listing). ExprBelow (length v.exprs) c.args.expr) (sym c.self.view_is) c.requires in
     let pushed : c.push-2.new.self.items ≡ c.reserve.new.self.items ++ c.low_among-low.result ∷ [] = rw c.unwrap.ensures at c.push-2.ensures.items in
-    let low : c.low_among-low.result ≡ low_in c.reserve.new.self.items c.args.expr = c.low_among-low.ensures ∙ ap (λ l. low_in l c.args.expr) (c.as_slice-2.ensures.value ∙ sym c.reserve.ensures.items) in
+    let low : c.low_among-low.result ≡ low_in c.reserve.new.self.items c.args.expr = c.low_among-low.ensures ∙ ap (λ l. low_in l c.args.expr) (c.as_slice.ensures.value ∙ sym c.reserve.ensures.items) in
     (subst P (sym c.in_ok-push.ensures.ok) (more_exprs p c.args.expr c.self.invariant.0 fits), lows_of-push p.exprs c.push.new.self c.args.expr c.reserve.new.self.items c.push-2.new.self.items c.low_among-low.result (c.reserve.ensures.items ∙ c.self.invariant.1) c.in_ok-push.ensures.ok low pushed)
