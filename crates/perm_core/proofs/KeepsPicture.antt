@@ -18,6 +18,10 @@ pub mod Arguments
 pub mod ParTurns
 pub mod GiveTurns
 pub mod AssignTurns
+pub mod MakeTurns
+pub mod ChangedObjects
+pub mod StoreTurns
+pub mod ItemStores
 pub mod ReturnTurns
 pub mod Relabellings
 pub mod CarriedValues
