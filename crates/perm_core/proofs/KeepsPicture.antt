@@ -22,6 +22,7 @@ pub mod MakeTurns
 pub mod ChangedObjects
 pub mod StoreTurns
 pub mod ItemStores
+pub mod ObjectTurns
 pub mod ReturnTurns
 pub mod Relabellings
 pub mod CarriedValues
