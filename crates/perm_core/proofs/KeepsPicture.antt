@@ -23,6 +23,7 @@ pub mod ChangedObjects
 pub mod StoreTurns
 pub mod ItemStores
 pub mod ObjectTurns
+pub mod LeafChanges
 pub mod ReturnTurns
 pub mod Relabellings
 pub mod CarriedValues

@@ -10,7 +10,7 @@ use Rattle.perm_core.specs.Core.{core, look}
 use Rattle.perm_core.proofs.KeepsPicture.LeafTurns.{TurnTo, TurnTells, turn-tells}
 
 -- a step is due only of a branch that has no end
-due-none : (close : Option (Close Held)) (s : Stage Held) (n t : ℕ) (l : Own) → stage_from close s n l ≡ Due t → close ≡ None
+pub due-none : (close : Option (Close Held)) (s : Stage Held) (n t : ℕ) (l : Own) → stage_from close s n l ≡ Due t → close ≡ None
 due-none None s n t l e = refl
 due-none (Some (Returning v)) s n t l e = absurd (let no : ⊥ = cc e in no)
 due-none (Some (Failing f)) s n t l e = absurd (let no : ⊥ = cc e in no)
