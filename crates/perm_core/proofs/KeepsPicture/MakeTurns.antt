@@ -2,7 +2,7 @@
 use Rattle.std.proofs.Common.{◌≡◌, ℕ, zero, suc, ◌<◌, Bool, true, false, Option, Some, None, List, [], ◌∷◌, length, refl, sym, ap, subst, ◌∙◌, inl, inr}
 use Rattle.std.specs.Prelude.{◌⊎◌, not, nat_eq, cond, pos, map, replicate, slice_get}
 use Rattle.std.specs.List.{list_all}
-use Rattle.std.proofs.lemmas.Bool.{or_parts, or_left}
+use Rattle.std.proofs.lemmas.Bool.{or_parts, or_left, not-false}
 use Rattle.std.proofs.lemmas.List.{length-replicate}
 use Rattle.perm_tree.specs.declared.ast.Perm.{Perm}
 use Rattle.perm_tree.specs.declared.ast.Perm.TheVariants.{Isolated}
@@ -143,16 +143,12 @@ module _ (u : UnitCode) (labels : Labels) (h : Objects Name) (at : Way → Way) 
   new-fits : Fits x type.0 found
   new-fits = go type.0 home (sym (ap (λ o. shapes_differ (Some (Ref Isolated shape)) o) type.1) ∙ taker-shaped u b.own (context_above u below b.own.routine st) (valued b.own.vars) i shape len x is allowed)
     where
-      one_shape : (t : Bool) → not t ≡ false → t ≡ true
-      one_shape true e = refl
-      one_shape false e = absurd (let no : ⊥ = cc e in no)
-
       go : (t : Ty) → to ≡ goal_of (Some t) (OfVariable (at Here) (calls st) x) (OwnOf (top_zone (at Here) z st)) → differ (Ref Isolated shape) t ≡ false → Fits x t found
       go Long q e = absurd (let no : ⊥ = cc e in no)
       go Boolean q e = absurd (let no : ⊥ = cc e in no)
       go (Ref p s) q e =
           together (has_shape (more name) s (length_of shape len)) (var_may_lead p (OfVariable (at Here) (calls st) x) (top_zone (at Here) z st) (made name))
-          (ap (λ o. has_shape o s (length_of shape len)) more-name ∙ new-shape u shape s len (one_shape (same_shape shape s) e))
+          (ap (λ o. has_shape o s (length_of shape len)) more-name ∙ new-shape u shape s len (not-false (same_shape shape s) e))
           (ap (λ r. var_may_lead p (OfVariable (at Here) (calls st) x) (top_zone (at Here) z st) r) (made-name ∙ q) ∙ goal-leads p (OfVariable (at Here) (calls st) x) (top_zone (at Here) z st))
 
   vars_fit : variables_fit u made more (top_zone (at Here) z st) (at Here) (calls st) 0 c.vars (assign b.own.vars x (Some found)) ≡ true

@@ -1,7 +1,7 @@
 -- An argument's value is stored in a field: the branch and the objects fit after it, the changed one included.
 use Rattle.std.proofs.Common.{◌≡◌, ℕ, ◌<◌, Bool, true, false, Option, Some, None, List, refl, sym, ap, subst, ◌∙◌, arith, le_refl, inl, inr}
 use Rattle.std.specs.Prelude.{◌⊎◌, ◌&&◌, ◌||◌, not, nat_eq, slice_get, slice_set, is_none}
-use Rattle.std.proofs.lemmas.Bool.{or_parts, or_left}
+use Rattle.std.proofs.lemmas.Bool.{or_parts, or_left, not-false}
 use Rattle.perm_tree.specs.declared.ast.Perm.{Perm}
 use Rattle.perm_tree.specs.declared.ast.Perm.TheVariants.{Isolated, Immutable, Readable, Writable}
 use Rattle.perm_tree.specs.declared.ast.Shape.{Shape}
@@ -52,7 +52,6 @@ unit-classes u m = go (slice_get u.routines m)
     go None = refl
     go (Some r) = refl
 
--- ---------- fields ----------
 -- the receiver of a store is an object of a class that has the field, and its permission lets it be written
 pub record StoreTypes (classes : List (List Ty)) (receiver : Option Ty) (f : ℕ) : Type 0 where
   pub p : Perm
@@ -61,10 +60,6 @@ pub record StoreTypes (classes : List (List Ty)) (receiver : Option Ty) (f : ℕ
   pub is : receiver ≡ Some (Ref p (Class k))
   pub field : field_in classes (Some (Ref p (Class k))) f ≡ Some t
   pub may : may_store (Ref p (Class k)) t ≡ true
-
-not-false : (b : Bool) → not b ≡ false → b ≡ true
-not-false true e = refl
-not-false false e = absurd (let no : ⊥ = cc e in no)
 
 -- so it is of an allowed store
 pub store-types : (c : Context) (y f : ℕ) (a : Argument) (G : Vars) → IsAllowed c (Simple (StoreField y f a)) G → StoreTypes c.classes (type_of c y) f
