@@ -35,6 +35,7 @@ pub mod ValueSets
 pub mod Beside
 pub mod ParStarts
 pub mod Arrivals
+pub mod FieldValues
 pub mod FewerLive
 pub mod GoesOfTrees
 pub mod HiddenFree

@@ -36,18 +36,18 @@ use Rattle.perm_core.proofs.Evaluation.{IsOfType, AreTyped, plain-long, term-eva
 use Rattle.perm_core.proofs.Progress.{GoesOn, value-goes, number-goes, index-goes, length-goes, limit-goes, object-goes, argument-goes, call-goes, field-there, item-there}
 
 -- ---------- known types ----------
-there : {A : Type 0} (o : Option A) → is_none o ≡ false → (x : A) × (o ≡ Some x)
+pub there : {A : Type 0} (o : Option A) → is_none o ≡ false → (x : A) × (o ≡ Some x)
 there None e = absurd (cc)
 there (Some x) e = (x, refl)
 
-object-type : (t : Option Ty) → is_none t ≡ false → if_known t (λ t. not (is_object t)) ≡ false → (p : Perm) × (k : ℕ) × (t ≡ Some (Ref p (Class k)))
+pub object-type : (t : Option Ty) → is_none t ≡ false → if_known t (λ t. not (is_object t)) ≡ false → (p : Perm) × (k : ℕ) × (t ≡ Some (Ref p (Class k)))
 object-type None known e = absurd (cc)
 object-type (Some Long) known e = absurd (cc)
 object-type (Some Boolean) known e = absurd (cc)
 object-type (Some (Ref p Array)) known e = absurd (cc)
 object-type (Some (Ref p (Class k))) known e = (p, k, refl)
 
-array-type : (t : Option Ty) → is_none t ≡ false → if_known t (λ t. not (is_long_array t)) ≡ false → (p : Perm) × (t ≡ Some (Ref p Array))
+pub array-type : (t : Option Ty) → is_none t ≡ false → if_known t (λ t. not (is_long_array t)) ≡ false → (p : Perm) × (t ≡ Some (Ref p Array))
 array-type None known e = absurd (cc)
 array-type (Some Long) known e = absurd (cc)
 array-type (Some Boolean) known e = absurd (cc)

@@ -110,7 +110,7 @@ null-comes h test (Ref p s) (Truth b) is e = absurd is
 null-comes h test (Ref p s) (Reference r n) is e = absurd is
 
 -- one kind and a permission that isn't too weak
-kinds-fit : (p q : Perm) (s t : Shape) → differ (Ref p s) (Ref q t) ≡ false → is_too_weak (Ref p s) (Ref q t) ≡ false → (same_shape s t ≡ true) × (is_at_most p q ≡ true)
+pub kinds-fit : (p q : Perm) (s t : Shape) → differ (Ref p s) (Ref q t) ≡ false → is_too_weak (Ref p s) (Ref q t) ≡ false → (same_shape s t ≡ true) × (is_at_most p q ≡ true)
 kinds-fit p q s t e f = go (same_shape s t) (is_at_most p q) e f
   where
     go : (a b : Bool) → not a ≡ false → (a && not b) ≡ false → (a ≡ true) × (b ≡ true)

@@ -33,7 +33,7 @@ use Rattle.perm_core.proofs.KeepsPicture.CarriedValues.{AllFit, to-all, from-all
 use Rattle.perm_core.proofs.KeepsPicture.CallEnds.{set-cases, set-length, StartsLow, top-low, stack-stays, weaker, own-outside, own-inside, raised-leads, lending-leads}
 
 -- ---------- values ----------
-shape-true : (s t : Shape) → same_shape s t ≡ true → s ≡ t
+pub shape-true : (s t : Shape) → same_shape s t ≡ true → s ≡ t
 shape-true Array Array e = refl
 shape-true Array (Class k) e = absurd (cc)
 shape-true (Class j) Array e = absurd (cc)
