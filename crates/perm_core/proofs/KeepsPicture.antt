@@ -36,6 +36,7 @@ pub mod Beside
 pub mod ParStarts
 pub mod Arrivals
 pub mod FieldValues
+pub mod LoadTurns
 pub mod FewerLive
 pub mod GoesOfTrees
 pub mod HiddenFree
