@@ -37,6 +37,7 @@ pub mod ParStarts
 pub mod Arrivals
 pub mod FieldValues
 pub mod LoadTurns
+pub mod TakeTurns
 pub mod FewerLive
 pub mod GoesOfTrees
 pub mod HiddenFree
