@@ -38,6 +38,7 @@ pub mod Arrivals
 pub mod FieldValues
 pub mod LoadTurns
 pub mod TakeTurns
+pub mod ReadTurns
 pub mod FewerLive
 pub mod GoesOfTrees
 pub mod HiddenFree
