@@ -1,20 +1,25 @@
 -- The turn of a statement that reads an object, whatever comes of it: the branch and the objects fit after it, in the next heap and under the next labels.
-use Rattle.std.proofs.Common.{◌≡◌, ℕ, Bool, true, List, refl}
-use Rattle.std.specs.Prelude.{cond}
+use Rattle.std.proofs.Common.{◌≡◌, ℕ, Bool, true, Some, List, refl, ap, subst, ◌∙◌}
+use Rattle.std.specs.Prelude.{ℤ, slice_get, cond}
 use Rattle.perm_tree.specs.declared.ast.Shape.{Shape}
-use Rattle.perm_tree.specs.Code.{Instruction, LoadField, LoadLength, LoadItem, TakeField, Code, Do, UnitCode}
+use Rattle.perm_tree.specs.declared.ast.Span.{Span}
+use Rattle.perm_tree.specs.Code.{Term, Instruction, LoadField, LoadLength, LoadItem, TakeField, Code, Do, UnitCode}
 use Rattle.perm_tree.specs.Vars.{Vars}
+use Rattle.perm_meaning.specs.Values.{Number, Reference}
 use Rattle.perm_meaning.specs.Names.{Name, Mark}
-use Rattle.perm_meaning.specs.Machine.{Frame, Way, Here, Did, On, done}
+use Rattle.perm_meaning.specs.Expressions.{assign}
+use Rattle.perm_meaning.specs.Effects.{Tick, Load, Take}
+use Rattle.perm_meaning.specs.Machine.{Frame, Failure, Leaf, Way, Here, Did, On, Dies, Turn, Takes, next_turn, done}
 use Rattle.perm_meaning.specs.NamedHeap.{Held, Heap, Op, Own, Branch, find, after}
 use Rattle.perm_meaning.specs.Steps.{Found}
 use Rattle.perm_core.specs.Core.{core}
 use Rattle.perm_core.specs.Regions.{Zone, Labels, calls, top_zone}
 use Rattle.perm_core.specs.Picture.{context_of, variables_fit, stack_fits, tree_fits, object_fits, valued, RestGoes}
-use Rattle.perm_core.specs.NextPicture.{relabelled, no_change, is_failing, instruction_change, code_change}
-use Rattle.perm_core.proofs.KeepsPicture.LeafTurns.{Acts, declares, assigns, loads, measures, reads, takes, stores, writes, prints, Creates, object, array, TurnTo, dying, ending, acting, making, beginning, left_block, right_block, into_loop, out_of_loop, parting, recovering, giving, returning}
+use Rattle.perm_core.specs.NextPicture.{Change, relabelled, no_change, is_failing, code_change, change, unless_refused}
+use Rattle.perm_core.proofs.KeepsPicture.LeafTurns.{Acts, declares, assigns, loads, measures, reads, takes, stores, writes, prints, Creates, object, array, Stays, TurnTo, dying, ending, acting, making, beginning, left_block, right_block, into_loop, out_of_loop, parting, recovering, giving, returning, TurnTells, turn-tells}
 use Rattle.perm_core.proofs.KeepsPicture.LoadTurns.{load-field-fits, load-field-objects, load-length-fits, load-item-fits}
 use Rattle.perm_core.proofs.KeepsPicture.TakeTurns.{take-field-fits, take-field-objects}
+use Rattle.perm_core.proofs.KeepsPicture.TrapTurns.{change-by-turn}
 
 -- a simple statement that reads an object
 abbrev pub Reads : Instruction → Type 0
@@ -29,69 +34,84 @@ abbrev pub IsReading : Code → Type 0
 IsReading (Do at i rest) = Reads i
 IsReading c = ⊥
 
-none-created : (u : UnitCode) (l : Own) (i : Instruction) (shape : Shape) (n y : ℕ) → Creates u l i shape n y → Reads i → ⊥
-none-created u l _ _ _ _ (object y c ts q) is = is
-none-created u l _ _ _ _ (array y e n) is = is
+-- what the turn of such code does, by what it asks and is told: it traps, or what is read comes into a variable
+pub data ReadTo (u : UnitCode) (l : Own) (w : Held) : Code → List (Frame Held) → Op → Did Held Mark → Type 0 where
+  traps : (c : Code) (st : List (Frame Held)) (e : Failure) → ReadTo u l w c st Tick (Dies e)
+  field : (at : Span) (x y f : ℕ) (rest : Code) (st : List (Frame Held)) (r : Name) (n : ℕ) (l' : Own) → slice_get l.vars y ≡ Some (Some (Reference r n)) → Stays u l l' (assign l.vars x w) → ReadTo u l w (Do at (LoadField x y f) rest) st (Load r f) (On l' rest st)
+  length : (at : Span) (x y : ℕ) (rest : Code) (st : List (Frame Held)) (n : ℤ) (l' : Own) → Stays u l l' (assign l.vars x (Some (Number n))) → ReadTo u l w (Do at (LoadLength x y) rest) st Tick (On l' rest st)
+  item : (at : Span) (x y : ℕ) (e : Term) (rest : Code) (st : List (Frame Held)) (r : Name) (n f : ℕ) (l' : Own) → slice_get l.vars y ≡ Some (Some (Reference r n)) → Stays u l l' (assign l.vars x w) → ReadTo u l w (Do at (LoadItem x y e) rest) st (Load r f) (On l' rest st)
+  taken : (at : Span) (x y f : ℕ) (rest : Code) (st : List (Frame Held)) (r : Name) (n : ℕ) (l' : Own) → slice_get l.vars y ≡ Some (Some (Reference r n)) → Stays u l l' (assign l.vars x w) → ReadTo u l w (Do at (TakeField x y f) rest) st (Take r f) (On l' rest st)
+
+module _ (u : UnitCode) (l : Own) (w : Held) where
+  none-created : (i : Instruction) (shape : Shape) (n y : ℕ) → Creates u l i shape n y → Reads i → ⊥
+  none-created _ _ _ _ (object y c ts q) is = is
+  none-created _ _ _ _ (array y e n) is = is
+
+  pub read-to : (c : Code) (st : List (Frame Held)) (o : Op) (d : Did Held Mark) → IsReading c → TurnTo u l w c st o d → ReadTo u l w c st o d
+  read-to _ _ _ _ is (dying c st e) = traps c st e
+  read-to _ _ _ _ is (acting p i rest st o vs l' acts stays) = read i o vs acts is stays
+    where
+      read : (i : Instruction) (o : Op) (vs : List Held) → Acts u l w i o vs → Reads i → Stays u l l' vs → ReadTo u l w (Do p i rest) st o (On l' rest st)
+      read _ _ _ (loads x y f r n here) is stays = field p x y f rest st r n l' here stays
+      read _ _ _ (measures x y r n here) is stays = length p x y rest st _ l' stays
+      read _ _ _ (reads x y e r n f here) is stays = item p x y e rest st r n f l' here stays
+      read _ _ _ (takes x y f r n here) is stays = taken p x y f rest st r n l' here stays
+      read _ _ _ (declares y) is stays = absurd is
+      read _ _ _ (prints e) is stays = absurd is
+      read _ _ _ (assigns y a v vs one) is stays = absurd is
+      read _ _ _ (stores y f a v vs r n one here) is stays = absurd is
+      read _ _ _ (writes y i e v k r n f q h here) is stays = absurd is
+  read-to _ _ _ _ is (making p i rest st shape n y l' made q) = absurd (none-created i shape n y made is)
+  read-to _ _ _ _ is (ending p a v q) = absurd is
+  read-to _ _ _ _ is (beginning p rest st into tie consumed y m args r this found vs saved lent l' c caller begins q0 q1 q2 q3 q4) = absurd is
+  read-to _ _ _ _ is (left_block p e own1 a own2 a2 rest st) = absurd is
+  read-to _ _ _ _ is (right_block p e own1 a own2 a2 rest st) = absurd is
+  read-to _ _ _ _ is (into_loop p e own body rest st) = absurd is
+  read-to _ _ _ _ is (out_of_loop p e own body rest st) = absurd is
+  read-to _ _ _ _ is (parting p own1 a own2 a2 rest st ps q) = absurd is
+  read-to _ _ _ _ is (recovering p y own hides body rest st l' saved q0 q) = absurd is
+  read-to _ _ _ _ is (giving p y e own hides saved rest st v l' had q q0) = absurd is
+  read-to _ _ _ _ is (returning p a tie into y saved lent caller rest st v l' q q0) = absurd is
+
+  -- it asks for no object
+  pub read-granted : (c : Code) (st : List (Frame Held)) (o : Op) (d : Did Held Mark) (limit : ℕ) (heap : Heap) (ch : Change) → ReadTo u l w c st o d → unless_refused limit heap (Some o) ch ≡ ch
+  read-granted _ _ _ _ limit heap ch (traps c st e) = refl
+  read-granted _ _ _ _ limit heap ch (field p x y f rest st r n l' here stays) = refl
+  read-granted _ _ _ _ limit heap ch (length p x y rest st n l' stays) = refl
+  read-granted _ _ _ _ limit heap ch (item p x y e rest st r n f l' here stays) = refl
+  read-granted _ _ _ _ limit heap ch (taken p x y f rest st r n l' here stays) = refl
 
 module _ (u : UnitCode) (labels : Labels) (fits : ℕ → Bool) (heap : Heap) (objects : (n : Name) → object_fits u labels heap.objects n (heap.objects n) ≡ true) (at : Way → Way) (z : Zone) (below : List ℕ) (b : Branch) (H : Vars) where
   -- the labels after a turn of this code, which did so; a turn that traps changes none
   abbrev pub labels-after : Code → List (Frame Held) → Did Held Mark → Labels
   labels-after c st d = relabelled (cond (is_failing u labels d) no_change (code_change u labels (context_of u b.own.routine) at z (record b { stack = st }) c)) labels
 
-  pub read-fits : (t : ℕ) (w : Held) (c : Code) (st : List (Frame Held)) (o : Op) (d : Did Held Mark) → IsReading c → RestGoes u below b.own.routine c st (valued b.own.vars) H
-      → variables_fit u labels heap.objects (top_zone (at Here) z st) (at Here) (calls st) 0 (context_of u b.own.routine).vars b.own.vars ≡ true → stack_fits u labels heap.objects (at Here) z b.own.routine st ≡ true
-      → find fits o heap ≡ Found w → TurnTo u b.own w c st o d → tree_fits u (labels-after c st d) (after u fits o heap).objects at z (done (core u) b t d) ≡ true
-  read-fits t w _ _ _ _ is goes vars stack told (dying c st f) = refl
-  read-fits t w _ _ _ _ is goes vars stack told (acting p i rest st o vs l acts stays) = acted i o vs acts is goes told stays.vars
-    where
-      acted : (i : Instruction) (o : Op) (vs : List Held) → Acts u b.own w i o vs → Reads i → RestGoes u below b.own.routine (Do p i rest) st (valued b.own.vars) H → find fits o heap ≡ Found w → l.vars ≡ vs
-          → tree_fits u (relabelled (instruction_change u labels (context_of u b.own.routine) (at Here) z (record b { stack = st }) i) labels) (after u fits o heap).objects at z (done (core u) b t (On l rest st)) ≡ true
-      acted _ _ _ (loads x y f r n here) is goes told same = load-field-fits u labels heap.objects at z below b p x y f rest st H r n w goes vars stack objects here told l t same stays.routine
-      acted _ _ _ (measures x y r n here) is goes told same = load-length-fits u labels heap.objects at z below b p x y rest st H _ goes vars stack l t same stays.routine
-      acted _ _ _ (reads x y e r n f here) is goes told same = load-item-fits u labels heap.objects at z below b p x y e rest st H r n f w goes vars stack objects here told l t same stays.routine
-      acted _ _ _ (takes x y f r n here) is goes told same = take-field-fits u labels heap.objects at z below b p x y f rest st H r n w goes vars stack objects here told l t same stays.routine
-      acted _ _ _ (declares y) is goes told same = absurd is
-      acted _ _ _ (prints e) is goes told same = absurd is
-      acted _ _ _ (assigns y a v vs one) is goes told same = absurd is
-      acted _ _ _ (stores y f a v vs r n one here) is goes told same = absurd is
-      acted _ _ _ (writes y i e v k r n f q h here) is goes told same = absurd is
-  read-fits t w _ _ _ _ is goes vars stack told (ending p a v q) = absurd is
-  read-fits t w _ _ _ _ is goes vars stack told (making p i rest st shape n y l made q) = absurd (none-created u b.own i shape n y made is)
-  read-fits t w _ _ _ _ is goes vars stack told (beginning p rest st into tie consumed y m args r this found vs saved lent l c caller begins q0 q1 q2 q3 q4) = absurd is
-  read-fits t w _ _ _ _ is goes vars stack told (left_block p e own1 a own2 a2 rest st) = absurd is
-  read-fits t w _ _ _ _ is goes vars stack told (right_block p e own1 a own2 a2 rest st) = absurd is
-  read-fits t w _ _ _ _ is goes vars stack told (into_loop p e own body rest st) = absurd is
-  read-fits t w _ _ _ _ is goes vars stack told (out_of_loop p e own body rest st) = absurd is
-  read-fits t w _ _ _ _ is goes vars stack told (parting p own1 a own2 a2 rest st ps q) = absurd is
-  read-fits t w _ _ _ _ is goes vars stack told (recovering p y own hides body rest st l saved q0 q) = absurd is
-  read-fits t w _ _ _ _ is goes vars stack told (giving p y e own hides saved rest st v l had q q0) = absurd is
-  read-fits t w _ _ _ _ is goes vars stack told (returning p a tie into y saved lent caller rest st v l q q0) = absurd is
+  -- what is known of the variables of the branch
+  pub record Before (c : Code) (st : List (Frame Held)) : Type 0 where
+    pub goes : RestGoes u below b.own.routine c st (valued b.own.vars) H
+    pub vars : variables_fit u labels heap.objects (top_zone (at Here) z st) (at Here) (calls st) 0 (context_of u b.own.routine).vars b.own.vars ≡ true
+    pub stack : stack_fits u labels heap.objects (at Here) z b.own.routine st ≡ true
 
-  pub read-objects : (w : Held) (c : Code) (st : List (Frame Held)) (o : Op) (d : Did Held Mark) → IsReading c → RestGoes u below b.own.routine c st (valued b.own.vars) H
-      → variables_fit u labels heap.objects (top_zone (at Here) z st) (at Here) (calls st) 0 (context_of u b.own.routine).vars b.own.vars ≡ true → stack_fits u labels heap.objects (at Here) z b.own.routine st ≡ true
-      → find fits o heap ≡ Found w → TurnTo u b.own w c st o d → (n : Name) → object_fits u (labels-after c st d) (after u fits o heap).objects n ((after u fits o heap).objects n) ≡ true
-  read-objects w _ _ _ _ is goes vars stack told (dying c st f) = objects
-  read-objects w _ _ _ _ is goes vars stack told (acting p i rest st o vs l acts stays) = acted i o vs acts is goes told
+  -- the branch fits after the turn
+  pub read-fits : (t : ℕ) (w : Held) (c : Code) (st : List (Frame Held)) (o : Op) (d : Did Held Mark) → Before c st → find fits o heap ≡ Found w → ReadTo u b.own w c st o d → tree_fits u (labels-after c st d) (after u fits o heap).objects at z (done (core u) b t d) ≡ true
+  read-fits t w _ _ _ _ so told (traps c st e) = refl
+  read-fits t w _ _ _ _ so told (field p x y f rest st r n l here stays) = load-field-fits u labels heap.objects at z below b p x y f rest st H r n w so.goes so.vars so.stack objects here told l t stays.vars stays.routine
+  read-fits t w _ _ _ _ so told (length p x y rest st n l stays) = load-length-fits u labels heap.objects at z below b p x y rest st H n so.goes so.vars so.stack l t stays.vars stays.routine
+  read-fits t w _ _ _ _ so told (item p x y e rest st r n f l here stays) = load-item-fits u labels heap.objects at z below b p x y e rest st H r n f w so.goes so.vars so.stack objects here told l t stays.vars stays.routine
+  read-fits t w _ _ _ _ so told (taken p x y f rest st r n l here stays) = take-field-fits u labels heap.objects at z below b p x y f rest st H r n w so.goes so.vars so.stack objects here told l t stays.vars stays.routine
+
+  -- and so do the objects
+  pub read-objects : (w : Held) (c : Code) (st : List (Frame Held)) (o : Op) (d : Did Held Mark) → Before c st → find fits o heap ≡ Found w → ReadTo u b.own w c st o d → (n : Name) → object_fits u (labels-after c st d) (after u fits o heap).objects n ((after u fits o heap).objects n) ≡ true
+  read-objects w _ _ _ _ so told (traps c st e) = objects
+  read-objects w _ _ _ _ so told (field p x y f rest st r n l here stays) = load-field-objects u labels heap.objects at z below b p x y f rest st H r n w so.goes so.vars so.stack objects here told
+  read-objects w _ _ _ _ so told (length p x y rest st n l stays) = objects
+  read-objects w _ _ _ _ so told (item p x y e rest st r n f l here stays) = objects
+  read-objects w _ _ _ _ so told (taken p x y f rest st r n l here stays) = take-field-objects u labels heap.objects at z below b p x y f rest st H r n w so.goes so.vars so.stack objects here told
+
+  -- the next labels are those
+  pub labels-next : (limit : ℕ) (w : Held) (o : Op) (told : Held → Did Held Mark) → IsReading b.code → next_turn (core u) b ≡ Takes o told → relabelled (unless_refused limit heap (Some o) (change u labels at z Here (Leaf b))) labels ≡ labels-after b.code b.stack (told w)
+  labels-next limit w o told is q =
+      ap (λ (ch : Change). relabelled ch labels) (read-granted u b.own w b.code b.stack o (told w) limit heap (change u labels at z Here (Leaf b)) (read-to u b.own w b.code b.stack o (told w) is turned) ∙ change-by-turn u labels at z b o told w q)
     where
-      acted : (i : Instruction) (o : Op) (vs : List Held) → Acts u b.own w i o vs → Reads i → RestGoes u below b.own.routine (Do p i rest) st (valued b.own.vars) H → find fits o heap ≡ Found w
-          → (n : Name) → object_fits u (relabelled (instruction_change u labels (context_of u b.own.routine) (at Here) z (record b { stack = st }) i) labels) (after u fits o heap).objects n ((after u fits o heap).objects n) ≡ true
-      acted _ _ _ (loads x y f r n here) is goes told = load-field-objects u labels heap.objects at z below b p x y f rest st H r n w goes vars stack objects here told
-      acted _ _ _ (measures x y r n here) is goes told = objects
-      acted _ _ _ (reads x y e r n f here) is goes told = objects
-      acted _ _ _ (takes x y f r n here) is goes told = take-field-objects u labels heap.objects at z below b p x y f rest st H r n w goes vars stack objects here told
-      acted _ _ _ (declares y) is goes told = absurd is
-      acted _ _ _ (prints e) is goes told = absurd is
-      acted _ _ _ (assigns y a v vs one) is goes told = absurd is
-      acted _ _ _ (stores y f a v vs r n one here) is goes told = absurd is
-      acted _ _ _ (writes y i e v k r n f q h here) is goes told = absurd is
-  read-objects w _ _ _ _ is goes vars stack told (ending p a v q) = absurd is
-  read-objects w _ _ _ _ is goes vars stack told (making p i rest st shape n y l made q) = absurd (none-created u b.own i shape n y made is)
-  read-objects w _ _ _ _ is goes vars stack told (beginning p rest st into tie consumed y m args r this found vs saved lent l c caller begins q0 q1 q2 q3 q4) = absurd is
-  read-objects w _ _ _ _ is goes vars stack told (left_block p e own1 a own2 a2 rest st) = absurd is
-  read-objects w _ _ _ _ is goes vars stack told (right_block p e own1 a own2 a2 rest st) = absurd is
-  read-objects w _ _ _ _ is goes vars stack told (into_loop p e own body rest st) = absurd is
-  read-objects w _ _ _ _ is goes vars stack told (out_of_loop p e own body rest st) = absurd is
-  read-objects w _ _ _ _ is goes vars stack told (parting p own1 a own2 a2 rest st ps q) = absurd is
-  read-objects w _ _ _ _ is goes vars stack told (recovering p y own hides body rest st l saved q0 q) = absurd is
-  read-objects w _ _ _ _ is goes vars stack told (giving p y e own hides saved rest st v l had q q0) = absurd is
-  read-objects w _ _ _ _ is goes vars stack told (returning p a tie into y saved lent caller rest st v l q q0) = absurd is
+      turned : TurnTo u b.own w b.code b.stack o (told w)
+      turned = (subst (λ (t : Turn Held Mark Op). TurnTells u b.own b.code b.stack t) q (turn-tells u b.own b.code b.stack)) w
