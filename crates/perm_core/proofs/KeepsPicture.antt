@@ -35,6 +35,7 @@ pub mod ValueSets
 pub mod Beside
 pub mod ParStarts
 pub mod Arrivals
+pub mod FieldMoves
 pub mod FieldValues
 pub mod LoadTurns
 pub mod TakeTurns

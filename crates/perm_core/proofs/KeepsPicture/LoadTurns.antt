@@ -1,5 +1,5 @@
 -- A field, an element or a length is read into a variable: the branch and the objects fit after it. An isolated field that is read through an immutable variable is frozen.
-use Rattle.std.proofs.Common.{◌≡◌, ℕ, suc, Bool, true, false, Option, Some, None, List, [], ◌∷◌, refl, sym, ap, subst, ◌∙◌, inl, inr}
+use Rattle.std.proofs.Common.{◌≡◌, ℕ, Bool, true, false, Option, Some, None, List, [], ◌∷◌, refl, sym, ap, subst, ◌∙◌, inl, inr}
 use Rattle.std.specs.Prelude.{◌⊎◌, ◌&&◌, ◌||◌, ℤ, cond, slice_get, option_map, is_none}
 use Rattle.std.proofs.lemmas.Bool.{or_parts}
 use Rattle.perm_tree.specs.declared.ast.Perm.{Perm}
@@ -10,7 +10,7 @@ use Rattle.perm_tree.specs.declared.ast.Span.{Span}
 use Rattle.perm_tree.specs.declared.ast.Ty.{Ty}
 use Rattle.perm_tree.specs.declared.ast.Ty.TheVariants.{Long, Bool as Boolean, Ref}
 use Rattle.perm_tree.specs.declared.errors.TypeKind.TheVariants.{UnknownName, WrongKind, NeedsConsume, NotAllowedThrough, PermissionTooWeak}
-use Rattle.perm_tree.specs.Code.{Tie, Shares, Raises, Lends, Term, LoadField, LoadLength, LoadItem, Code, Do, UnitCode}
+use Rattle.perm_tree.specs.Code.{Term, LoadField, LoadLength, LoadItem, Code, Do, UnitCode}
 use Rattle.perm_tree.specs.CodeOf.{is_tied}
 use Rattle.perm_tree.specs.Mentions.{any_in_term}
 use Rattle.perm_tree.specs.Vars.{Vars}
@@ -25,64 +25,27 @@ use Rattle.perm_meaning.specs.Values.{Value, Number, Reference}
 use Rattle.perm_meaning.specs.Names.{Name}
 use Rattle.perm_meaning.specs.Objects.{Objects, field_of}
 use Rattle.perm_meaning.specs.Expressions.{assign}
-use Rattle.perm_meaning.specs.Machine.{Frame, OpenBlock, OpenRecover, OpenCall, Way, Here, On, done}
+use Rattle.perm_meaning.specs.Machine.{Frame, Way, Here, On, done}
 use Rattle.perm_meaning.specs.NamedHeap.{Held, Own, Branch, found}
 use Rattle.perm_meaning.specs.Steps.{Found}
-use Rattle.perm_meaning.proofs.Leads.{some_inj}
 use Rattle.perm_meaning.proofs.SameName.{both}
 use Rattle.perm_core.specs.Core.{core}
-use Rattle.perm_core.specs.Regions.{Zone, Base, Region, Frozen, OwnOf, OfVariable, OfField, Loose, Absent, Labels, same_region, var_may_lead, field_may_lead, calls, zones, top_zone}
+use Rattle.perm_core.specs.Regions.{Zone, Region, Frozen, OwnOf, OfVariable, OfField, Loose, Absent, Labels, same_region, var_may_lead, field_may_lead, calls, top_zone}
 use Rattle.perm_core.specs.Picture.{context_of, has_shape, value_fits, variables_fit, stack_fits, tree_fits, object_fits, valued, context_above, RestGoes}
 use Rattle.perm_core.specs.NextPicture.{Moves, moved, relabelled, no_change, moving, field_region, is_immutable, instruction_change}
 use Rattle.perm_core.proofs.LeadsTo.{frozen-true}
 use Rattle.perm_core.proofs.Unstuck.{there, object-type, array-type}
 use Rattle.perm_core.proofs.KeepsPicture.Arguments.{kinds-fit}
 use Rattle.perm_core.proofs.KeepsPicture.Arrivals.{thawed, loaded}
-use Rattle.perm_core.proofs.KeepsPicture.CallEnds.{set-cases, set-length}
-use Rattle.perm_core.proofs.KeepsPicture.CarriedValues.{AllFit, to-all, from-all, one-carry, LentStays, StackStays, stack-carry}
+use Rattle.perm_core.proofs.KeepsPicture.CarriedValues.{to-all}
+use Rattle.perm_core.proofs.KeepsPicture.FieldMoves.{MovesFields, moves-none, stack-after, variables-after}
 use Rattle.perm_core.proofs.KeepsPicture.FieldValues.{same-classes, field-fits, item-fits}
 use Rattle.perm_core.proofs.KeepsPicture.HiddenVariables.{top-goes}
 use Rattle.perm_core.proofs.KeepsPicture.PlainTurns.{on-fits}
 use Rattle.perm_core.proofs.KeepsPicture.Relabellings.{Good, good-none, good-moves, of_field, region-true, value-carry, FieldsStay, object-carry}
 use Rattle.perm_core.proofs.KeepsPicture.Returns.{value-into}
 
--- ---------- a value comes into a variable ----------
-module _ (u : UnitCode) (labels : Labels) (h : Objects Name) (ρ : Region → Region) (good : Good ρ) (own : (q : Zone) → ρ (OwnOf q) ≡ OwnOf q) (stay : (w : Way) (k x : ℕ) → ρ (OfVariable w k x) ≡ OfVariable w k x) where
-  -- a change of regions of fields alone leaves alone what stands below the code of a branch
-  fields-only : (w : Way) (z : Zone) (st : List (Frame Held)) → StackStays u labels h ρ good w z st
-  fields-only w z [] = tt
-  fields-only w z (OpenBlock own' rest ∷ st) = fields-only w z st
-  fields-only w z (OpenRecover own' hides saved rest ∷ st) = (λ x v has. stay w (calls st) x, own (top_zone w z st), fields-only w z st)
-  fields-only w z (OpenCall tie into y saved lent caller rest ∷ st) = (λ x v has. stay w (calls st) x, own (top_zone w z st), lent-stays tie, fields-only w z st)
-    where
-      lent-stays : (tie : Tie) → LentStays u labels h ρ good w tie (zones st)
-      lent-stays Shares = tt
-      lent-stays Raises = tt
-      lent-stays Lends = own (Base w (suc (zones st)))
-
-  pub stack-after : (w : Way) (z : Zone) (m : ℕ) (st : List (Frame Held)) → stack_fits u labels h w z m st ≡ true → stack_fits u (λ n. ρ (labels n)) h w z m st ≡ true
-  stack-after w z m st e = stack-carry u labels h ρ good w z m st (fields-only w z st) e
-
-  -- the value fits the variable into which it comes, and the others fit as before
-  pub variables-after : (w : Way) (k : ℕ) (z : Zone) (ts : List Ty) (vs : List Held) (x : ℕ) (t : Ty) (d : Value Name) → slice_get ts x ≡ Some t → value_fits h (λ p n. var_may_lead p (OfVariable w k x) z (ρ (labels n))) t d ≡ true
-      → variables_fit u labels h z w k 0 ts vs ≡ true → variables_fit u (λ n. ρ (labels n)) h z w k 0 ts (assign vs x (Some d)) ≡ true
-  variables-after w k z ts vs x t d type comes vars = from-all u (λ n. ρ (labels n)) h z w k ts (assign vs x (Some d)) (record { lengths = fit.lengths ∙ sym (set-length vs x (Some d)); each = each })
-    where
-      fit : AllFit u labels h z w k ts vs
-      fit = to-all u labels h z w k ts vs vars
-
-      Fits : ℕ → Ty → Value Name → Type 0
-      Fits i s a = value_fits h (λ p n. var_may_lead p (OfVariable w k i) z (ρ (labels n))) s a ≡ true
-
-      each : (i : ℕ) (s : Ty) (a : Value Name) → slice_get ts i ≡ Some s → slice_get (assign vs x (Some d)) i ≡ Some (Some a) → Fits i s a
-      each i s a is has = pick (set-cases vs x (Some d) i (Some a) has)
-        where
-          pick : ((i ≡ x) × (Some d ≡ Some a)) ⊎ ((i ≡ x → ⊥) × (slice_get vs i ≡ Some (Some a))) → Fits i s a
-          pick (inl q) =
-              let same : t ≡ s = some_inj (sym type ∙ ap (slice_get ts) (sym q.0) ∙ is) in
-              subst (λ (j : ℕ). Fits j s a) (sym q.0) (subst (λ (r : Ty). Fits x r a) same (subst (λ (b : Value Name). Fits x t b) (some_inj q.1) comes))
-          pick (inr q) = one-carry u labels h ρ good w w k k i i z z s a (stay w k i) (own z) (fit.each i s a is q.1)
-
+-- ---------- what is told ----------
 -- what the heap answers is there
 pub found-some : (o : Option (Value Name)) (w : Held) → found o ≡ Found w → (d : Value Name) × ((o ≡ Some d) × (w ≡ Some d))
 found-some None w e = absurd (let no : ⊥ = cc e in no)
@@ -298,16 +261,18 @@ module _ (u : UnitCode) (labels : Labels) (h : Objects Name) (at : Way → Way) 
       load-comes u labels h (at Here) (calls st) x y (top_zone (at Here) z st) r f ts.p ts.k ts.field ts.taker d.0 ts.kind ts.strong ts.needs ts.barred led.1
       (field-fits u labels h r ts.k len f ts.field d.0 (objects r) led.0 in-class d.1.0)
 
+  -- what the load changes of the labels
+  pub load-field-moves : MovesFields labels labels-loaded
+  load-field-moves = record { ρ = ρ; good = froze-good i j r f; own = froze-own i j r f; stay = froze-variable i j r f; so = loaded-so }
+
   vars_fit : variables_fit u labels-loaded h (top_zone (at Here) z st) (at Here) (calls st) 0 c.vars (assign b.own.vars x w) ≡ true
   vars_fit =
-      subst (λ (ls : Labels). variables_fit u ls h (top_zone (at Here) z st) (at Here) (calls st) 0 c.vars (assign b.own.vars x w) ≡ true) (sym loaded-so)
-      (subst (λ (v : Held). variables_fit u (λ n. ρ (labels n)) h (top_zone (at Here) z st) (at Here) (calls st) 0 c.vars (assign b.own.vars x v) ≡ true) (sym d.1.1)
-      (variables-after u labels h ρ (froze-good i j r f) (froze-own i j r f) (froze-variable i j r f) (at Here) (calls st) (top_zone (at Here) z st) c.vars b.own.vars x ts.taker d.0 ts.takes comes vars))
+      subst (λ (v : Held). variables_fit u labels-loaded h (top_zone (at Here) z st) (at Here) (calls st) 0 c.vars (assign b.own.vars x v) ≡ true) (sym d.1.1)
+      (variables-after u labels labels-loaded h load-field-moves (at Here) (calls st) (top_zone (at Here) z st) c.vars b.own.vars x ts.taker d.0 ts.takes
+      (subst (λ (ls : Labels). value_fits h (λ q m. var_may_lead q (OfVariable (at Here) (calls st) x) (top_zone (at Here) z st) (ls m)) ts.taker d.0 ≡ true) (sym loaded-so) comes) vars)
 
   stack_fit : stack_fits u labels-loaded h (at Here) z b.own.routine st ≡ true
-  stack_fit =
-      subst (λ (ls : Labels). stack_fits u ls h (at Here) z b.own.routine st ≡ true) (sym loaded-so)
-      (stack-after u labels h ρ (froze-good i j r f) (froze-own i j r f) (froze-variable i j r f) (at Here) z b.own.routine st stack)
+  stack_fit = stack-after u labels labels-loaded h load-field-moves (at Here) z b.own.routine st stack
 
   -- the branch that goes on fits
   pub load-field-fits : (l : Own) (t : ℕ) → l.vars ≡ assign b.own.vars x w → l.routine ≡ b.own.routine → tree_fits u labels-loaded h at z (done (core u) b t (On l rest st)) ≡ true
@@ -342,7 +307,7 @@ module _ (u : UnitCode) (labels : Labels) (h : Objects Name) (at : Way → Way) 
   number-fits : (n : ℤ) (l : Own) (t : ℕ) → l.vars ≡ assign b.own.vars x (Some (Number n)) → l.routine ≡ b.own.routine → tree_fits u labels h at z (done (core u) b t (On l rest st)) ≡ true
   number-fits n l t same routine =
       on-fits u labels h (at Here) z b l t b.own.routine (assign b.own.vars x (Some (Number n))) rest st same routine
-      (variables-after u labels h (λ r. r) good-none (λ q. refl) (λ w k i. refl) (at Here) (calls st) (top_zone (at Here) z st) (context_of u b.own.routine).vars b.own.vars x Long (Number n) type refl vars) stack at refl
+      (variables-after u labels labels h (moves-none labels) (at Here) (calls st) (top_zone (at Here) z st) (context_of u b.own.routine).vars b.own.vars x Long (Number n) type refl vars) stack at refl
 
 -- the length of an array comes into a variable. No label changes, nor does the heap
 pub load-length-fits : (u : UnitCode) (labels : Labels) (h : Objects Name) (at : Way → Way) (z : Zone) (below : List ℕ) (b : Branch) (span : Span) (x y : ℕ) (rest : Code) (st : List (Frame Held)) (H : Vars) (n : ℤ) → RestGoes u below b.own.routine (Do span (LoadLength x y) rest) st (valued b.own.vars) H

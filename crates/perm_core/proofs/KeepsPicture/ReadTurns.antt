@@ -10,15 +10,17 @@ use Rattle.perm_meaning.specs.Names.{Name, Mark}
 use Rattle.perm_meaning.specs.Expressions.{assign}
 use Rattle.perm_meaning.specs.Effects.{Tick, Load, Take}
 use Rattle.perm_meaning.specs.Machine.{Frame, Failure, Leaf, Way, Here, Did, On, Dies, Turn, Takes, next_turn, done}
-use Rattle.perm_meaning.specs.NamedHeap.{Held, Heap, Op, Own, Branch, find, after}
+use Rattle.perm_meaning.specs.NamedHeap.{Held, Heap, Op, Own, Branch, Task, find, after}
 use Rattle.perm_meaning.specs.Steps.{Found}
 use Rattle.perm_core.specs.Core.{core}
 use Rattle.perm_core.specs.Regions.{Zone, Labels, calls, top_zone}
-use Rattle.perm_core.specs.Picture.{context_of, variables_fit, stack_fits, tree_fits, object_fits, valued, RestGoes}
+use Rattle.perm_core.specs.Picture.{context_of, variables_fit, stack_fits, branch_fits, tree_fits, object_fits, valued, RestGoes}
 use Rattle.perm_core.specs.NextPicture.{Change, relabelled, no_change, is_failing, code_change, change, unless_refused}
+use Rattle.perm_core.proofs.KeepsPicture.FieldMoves.{MovesFields, moves-none, branch-after, tree-after}
 use Rattle.perm_core.proofs.KeepsPicture.LeafTurns.{Acts, declares, assigns, loads, measures, reads, takes, stores, writes, prints, Creates, object, array, Stays, TurnTo, dying, ending, acting, making, beginning, left_block, right_block, into_loop, out_of_loop, parting, recovering, giving, returning, TurnTells, turn-tells}
-use Rattle.perm_core.proofs.KeepsPicture.LoadTurns.{load-field-fits, load-field-objects, load-length-fits, load-item-fits}
-use Rattle.perm_core.proofs.KeepsPicture.TakeTurns.{take-field-fits, take-field-objects}
+use Rattle.perm_core.proofs.KeepsPicture.LoadTurns.{load-field-fits, load-field-objects, load-field-moves, load-length-fits, load-item-fits}
+use Rattle.perm_core.proofs.KeepsPicture.OtherHeaps.{KeepsShapes, branch-more, tree-more, after-keeps}
+use Rattle.perm_core.proofs.KeepsPicture.TakeTurns.{take-field-fits, take-field-objects, take-field-moves}
 use Rattle.perm_core.proofs.KeepsPicture.TrapTurns.{change-by-turn}
 
 -- a simple statement that reads an object
@@ -107,6 +109,35 @@ module _ (u : UnitCode) (labels : Labels) (fits : ℕ → Bool) (heap : Heap) (o
   read-objects w _ _ _ _ so told (length p x y rest st n l stays) = objects
   read-objects w _ _ _ _ so told (item p x y e rest st r n f l here stays) = objects
   read-objects w _ _ _ _ so told (taken p x y f rest st r n l here stays) = take-field-objects u labels heap.objects at z below b p x y f rest st H r n w so.goes so.vars so.stack objects here told
+
+  -- ---------- the other nodes ----------
+  -- what the turn changes of the labels
+  pub read-moves : (w : Held) (c : Code) (st : List (Frame Held)) (o : Op) (d : Did Held Mark) → Before c st → find fits o heap ≡ Found w → ReadTo u b.own w c st o d → MovesFields labels (labels-after c st d)
+  read-moves w _ _ _ _ so told (traps c st e) = moves-none labels
+  read-moves w _ _ _ _ so told (field p x y f rest st r n l here stays) = load-field-moves u labels heap.objects at z below b p x y f rest st H r n w so.goes so.vars so.stack objects here told
+  read-moves w _ _ _ _ so told (length p x y rest st n l stays) = moves-none labels
+  read-moves w _ _ _ _ so told (item p x y e rest st r n f l here stays) = moves-none labels
+  read-moves w _ _ _ _ so told (taken p x y f rest st r n l here stays) = take-field-moves u labels heap.objects at z below b p x y f rest st H r n w so.goes so.vars so.stack objects here told
+
+  -- what is there keeps its shape
+  pub read-keeps : (w : Held) (c : Code) (st : List (Frame Held)) (o : Op) (d : Did Held Mark) (ls : Labels) → ReadTo u b.own w c st o d → KeepsShapes ls ls heap.objects (after u fits o heap).objects
+  read-keeps w _ _ _ _ ls (traps c st e) = λ n k len q. (q, refl)
+  read-keeps w _ _ _ _ ls (field p x y f rest st r n l here stays) = λ m k len q. (q, refl)
+  read-keeps w _ _ _ _ ls (length p x y rest st n l stays) = λ m k len q. (q, refl)
+  read-keeps w _ _ _ _ ls (item p x y e rest st r n f l here stays) = λ m k len q. (q, refl)
+  read-keeps w _ _ _ _ ls (taken p x y f rest st r n l here stays) = after-keeps u fits (Take r f) ls heap (λ by shape m q. absurd (let no : ⊥ = cc q in no))
+
+  -- a tree that stands elsewhere fits as before
+  pub read-beside : (w : Held) (c : Code) (st : List (Frame Held)) (o : Op) (d : Did Held Mark) → Before c st → find fits o heap ≡ Found w → ReadTo u b.own w c st o d
+      → (at' : Way → Way) (y : Zone) (t : Task) → tree_fits u labels heap.objects at' y t ≡ true → tree_fits u (labels-after c st d) (after u fits o heap).objects at' y t ≡ true
+  read-beside w c st o d so told to at' y t e =
+      tree-after u labels (labels-after c st d) (after u fits o heap).objects (read-moves w c st o d so told to) at' y t (tree-more u labels labels heap.objects (after u fits o heap).objects (read-keeps w c st o d labels to) at' y t e)
+
+  -- and so does a parent that waits
+  pub read-above : (w : Held) (c : Code) (st : List (Frame Held)) (o : Op) (d : Did Held Mark) → Before c st → find fits o heap ≡ Found w → ReadTo u b.own w c st o d
+      → (v : Way) (y : Zone) (a : Branch) → branch_fits u labels heap.objects v y a ≡ true → branch_fits u (labels-after c st d) (after u fits o heap).objects v y a ≡ true
+  read-above w c st o d so told to v y a e =
+      branch-after u labels (labels-after c st d) (after u fits o heap).objects (read-moves w c st o d so told to) v y a (branch-more u labels labels heap.objects (after u fits o heap).objects (read-keeps w c st o d labels to) v y a e)
 
   -- the next labels are those
   pub labels-next : (limit : ℕ) (w : Held) (o : Op) (told : Held → Did Held Mark) → IsReading b.code → next_turn (core u) b ≡ Takes o told → relabelled (unless_refused limit heap (Some o) (change u labels at z Here (Leaf b))) labels ≡ labels-after b.code b.stack (told w)

@@ -40,9 +40,10 @@ use Rattle.perm_core.proofs.Unstuck.{there, object-type}
 use Rattle.perm_core.proofs.KeepsPicture.AssignTurns.{goal-there}
 use Rattle.perm_core.proofs.KeepsPicture.CallEnds.{set-cases, set-length, goal-leads}
 use Rattle.perm_core.proofs.KeepsPicture.CarriedValues.{to-all}
+use Rattle.perm_core.proofs.KeepsPicture.FieldMoves.{MovesFields, variables-after, stack-after}
 use Rattle.perm_core.proofs.KeepsPicture.FieldValues.{same-classes, Fits, FieldsFit, fields-each, each-fields, IsOfClass, of-class}
 use Rattle.perm_core.proofs.KeepsPicture.HiddenVariables.{top-goes}
-use Rattle.perm_core.proofs.KeepsPicture.LoadTurns.{found-some, variables-after, stack-after}
+use Rattle.perm_core.proofs.KeepsPicture.LoadTurns.{found-some}
 use Rattle.perm_core.proofs.KeepsPicture.OtherHeaps.{KeepsShapes, variable-more, variables-more, stack-more, field-more, after-keeps}
 use Rattle.perm_core.proofs.KeepsPicture.PlainTurns.{on-fits}
 use Rattle.perm_core.proofs.KeepsPicture.Relabellings.{Good, good-moves, of_field, value-carry, field-carry}
@@ -173,9 +174,6 @@ module _ (u : UnitCode) (labels : Labels) (h : Objects Name) (at : Way → Way) 
           ap (λ (o : Option Held). moved (Moves (field_region u labels o f) (goal_at c (at Here) z st x) ∷ []) (labels n)) here
           ∙ ap (λ (o : Option Ty). moved (Moves (OfField r f) (goal_of o (OfVariable (at Here) (calls st) x) (OwnOf zone)) ∷ []) (labels n)) ts.takes
 
-  kept : (ls : Labels) → KeepsShapes ls ls h objects-taken
-  kept ls = after-keeps u (λ n. true) (Take r f) ls (record { objects = h; given = 0 }) (λ by shape n e. absurd (let no : ⊥ = cc e in no))
-
   d : (a : Value Name) × ((field_of h r f ≡ Some a) × (w ≡ Some a))
   d = found-some (field_of h r f) w told
 
@@ -197,18 +195,24 @@ module _ (u : UnitCode) (labels : Labels) (h : Objects Name) (at : Way → Way) 
       (λ m e. ap (λ t. var_may_lead ts.q (OfVariable (at Here) (calls st) x) zone (cond t to (labels m))) (free-field (OfField r f) (labels r) (labels m) (unfrozen ts.p ts.k (at Here) (calls st) y zone (labels r) ts.changes led.1) e) ∙ goal-leads ts.q (OfVariable (at Here) (calls st) x) zone)
       (o.fields.each f (Ref Isolated ts.l) d.0 in-class (sym (ap (λ (v : Option (Object Name)). value_in v f) o.here) ∙ d.1.0))
 
+  -- what the take changes of the labels
+  pub take-field-moves : MovesFields labels labels-taken
+  take-field-moves = record { ρ = ρ; good = good; own = λ q. refl; stay = λ v k i. refl; so = taken-so }
+
+  -- what is there keeps its shape
+  pub take-field-keeps : (ls : Labels) → KeepsShapes ls ls h objects-taken
+  take-field-keeps ls = after-keeps u (λ n. true) (Take r f) ls (record { objects = h; given = 0 }) (λ by shape n e. absurd (let no : ⊥ = cc e in no))
+
   vars_fit : variables_fit u labels-taken objects-taken zone (at Here) (calls st) 0 c.vars (assign b.own.vars x w) ≡ true
   vars_fit =
-      subst (λ (ls : Labels). variables_fit u ls objects-taken zone (at Here) (calls st) 0 c.vars (assign b.own.vars x w) ≡ true) (sym taken-so)
-      (subst (λ (v : Held). variables_fit u (λ n. ρ (labels n)) objects-taken zone (at Here) (calls st) 0 c.vars (assign b.own.vars x v) ≡ true) (sym d.1.1)
-      (variables-after u labels objects-taken ρ good (λ q. refl) (λ v k i. refl) (at Here) (calls st) zone c.vars b.own.vars x (Ref ts.q ts.s) d.0 ts.takes
-      (variable-more u (λ n. ρ (labels n)) (λ n. ρ (labels n)) h objects-taken (kept (λ n. ρ (labels n))) zone (at Here) (calls st) x (Ref ts.q ts.s) d.0 comes)
-      (variables-more u labels labels h objects-taken (kept labels) zone (at Here) (calls st) 0 c.vars b.own.vars vars)))
+      subst (λ (v : Held). variables_fit u labels-taken objects-taken zone (at Here) (calls st) 0 c.vars (assign b.own.vars x v) ≡ true) (sym d.1.1)
+      (variables-after u labels labels-taken objects-taken take-field-moves (at Here) (calls st) zone c.vars b.own.vars x (Ref ts.q ts.s) d.0 ts.takes
+      (variable-more u labels-taken labels-taken h objects-taken (take-field-keeps labels-taken) zone (at Here) (calls st) x (Ref ts.q ts.s) d.0
+      (subst (λ (ls : Labels). value_fits h (λ q m. var_may_lead q (OfVariable (at Here) (calls st) x) zone (ls m)) (Ref ts.q ts.s) d.0 ≡ true) (sym taken-so) comes))
+      (variables-more u labels labels h objects-taken (take-field-keeps labels) zone (at Here) (calls st) 0 c.vars b.own.vars vars))
 
   stack_fit : stack_fits u labels-taken objects-taken (at Here) z b.own.routine st ≡ true
-  stack_fit =
-      subst (λ (ls : Labels). stack_fits u ls objects-taken (at Here) z b.own.routine st ≡ true) (sym taken-so)
-      (stack-after u labels objects-taken ρ good (λ q. refl) (λ v k i. refl) (at Here) z b.own.routine st (stack-more u labels labels h objects-taken (kept labels) (at Here) z b.own.routine st stack))
+  stack_fit = stack-after u labels labels-taken objects-taken take-field-moves (at Here) z b.own.routine st (stack-more u labels labels h objects-taken (take-field-keeps labels) (at Here) z b.own.routine st stack)
 
   -- the branch that goes on fits
   pub take-field-fits : (l : Own) (t : ℕ) → l.vars ≡ assign b.own.vars x w → l.routine ≡ b.own.routine → tree_fits u labels-taken objects-taken at z (done (core u) b t (On l rest st)) ≡ true
@@ -221,7 +225,7 @@ module _ (u : UnitCode) (labels : Labels) (h : Objects Name) (at : Way → Way) 
   -- another field, or one of another object, fits as before
   field-after : (n : Name) (g : ℕ) (t : Ty) (v : Value Name) → (nat_eq g f && same_name n r) ≡ false → Fits u labels h n g t v → Fits u after objects-taken n g t v
   field-after n g t v apart fits =
-      field-more u after after h objects-taken (kept after) n g t v refl
+      field-more u after after h objects-taken (take-field-keeps after) n g t v refl
       (value-carry h (λ p m. field_may_lead p (OfField n g) (labels n) (labels m)) (λ p m. field_may_lead p (OfField n g) (after n) (after m)) t v
       (λ p s m i q. field-carry ρ good p (OfField n g) (labels n) (labels m) (inl (ap (λ b. cond b to (OfField n g)) apart)) q) fits)
 
