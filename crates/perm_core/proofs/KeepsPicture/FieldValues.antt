@@ -1,7 +1,8 @@
 -- The values of an object that fits, one by one: each is of the type of its field, and an object whose values all are fits.
-use Rattle.std.proofs.Common.{◌≡◌, ℕ, zero, suc, ◌+◌, Bool, true, false, Option, Some, None, List, [], ◌∷◌, length, refl, sym, ap, subst, ◌∙◌, arith}
+use Rattle.std.proofs.Common.{◌≡◌, ℕ, zero, suc, ◌+◌, true, false, Option, Some, None, List, [], ◌∷◌, length, refl, sym, ap, subst, ◌∙◌, arith}
 use Rattle.std.specs.Prelude.{not, ℤ, slice_get}
 use Rattle.std.specs.List.{list_all}
+use Rattle.std.proofs.lemmas.Bool.{not-true}
 use Rattle.perm_tree.specs.declared.ast.Shape.TheVariants.{Class, Array}
 use Rattle.perm_tree.specs.declared.ast.Ty.{Ty}
 use Rattle.perm_tree.specs.Code.{Routine, UnitCode}
@@ -79,10 +80,6 @@ module _ (u : UnitCode) (labels : Labels) (h : Objects Name) (o : Name) where
     pub class : slice_get u.classes k ≡ Some types
     pub label : is_absent (labels o) ≡ false
     pub fields : FieldsFit u labels h o types object.values
-
-  not-true : (b : Bool) → not b ≡ true → b ≡ false
-  not-true true e = absurd (let no : ⊥ = cc e in no)
-  not-true false e = refl
 
   pub of-class : (k len : ℕ) → object_fits u labels h o (h o) ≡ true → has_shape (h o) (Class k) len ≡ true → IsOfClass k
   of-class k len = go (h o) refl

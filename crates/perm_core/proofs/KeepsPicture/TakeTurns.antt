@@ -1,7 +1,7 @@
 -- An isolated field is taken into a variable, and is null then: its region goes where the value comes, and the branch and the objects fit after it.
 use Rattle.std.proofs.Common.{◌≡◌, ℕ, Bool, true, false, Option, Some, None, List, [], ◌∷◌, refl, sym, ap, subst, ◌∙◌, inl, inr, arith}
 use Rattle.std.specs.Prelude.{◌⊎◌, ◌&&◌, ◌||◌, not, nat_eq, cond, slice_get, slice_set, is_none}
-use Rattle.std.proofs.lemmas.Bool.{or_cases, or_parts}
+use Rattle.std.proofs.lemmas.Bool.{or_cases, or_parts, not-true, not-false}
 use Rattle.std.proofs.lemmas.Bool.Decides.{nat_tests}
 use Rattle.std.proofs.Math.Bool.{and-false}
 use Rattle.perm_tree.specs.declared.ast.Perm.{Perm}
@@ -93,10 +93,6 @@ take-types c x y f G allowed = types field.0 taker.0 field.1 taker.1 isolated ki
 
     kind : differ field.0 taker.0 ≡ false
     kind = sym (ap (λ o. if_both_known (field_type c y f) o differ) taker.1 ∙ ap (λ o. if_both_known o (Some taker.0) differ) held) ∙ wrongs.1
-
-    not-false : (b : Bool) → not b ≡ false → b ≡ true
-    not-false true e = refl
-    not-false false e = absurd (let no : ⊥ = cc e in no)
 
     types : (a b : Ty) → field_in c.classes (Some (Ref t.0 (Class t.1))) f ≡ Some a → type_of c x ≡ Some b → isnt_isolated (Some a) ≡ false → differ a b ≡ false → TakeTypes c x y f
     types (Ref Isolated l) (Ref q s) i j iso kind = record {
@@ -236,10 +232,6 @@ module _ (u : UnitCode) (labels : Labels) (h : Objects Name) (at : Way → Way) 
   none-after (OfVariable v k i) e = absurd (let no : ⊥ = cc e in no)
   none-after (OfField n g) e = absurd (let no : ⊥ = cc e in no)
   none-after Loose e = absurd (let no : ⊥ = cc e in no)
-
-  not-true : (b : Bool) → not b ≡ true → b ≡ false
-  not-true true e = absurd (let no : ⊥ = cc e in no)
-  not-true false e = refl
 
   other-object : (n : Name) → same_name n r ≡ false → (a : Option (Object Name)) → object_fits u labels h n a ≡ true → object_fits u after objects-taken n a ≡ true
   other-object n apart None e = none-after (labels n) e
