@@ -24,16 +24,16 @@ use Rattle.perm_core.proofs.KeepsPicture.TakeTurns.{take-field-fits, take-field-
 use Rattle.perm_core.proofs.KeepsPicture.TrapTurns.{change-by-turn}
 
 -- a simple statement that reads an object
-abbrev pub Reads : Instruction → Type 0
-Reads (LoadField x y f) = Unit {0}
-Reads (LoadLength x y) = Unit {0}
-Reads (LoadItem x y e) = Unit {0}
-Reads (TakeField x y f) = Unit {0}
-Reads i = ⊥
+abbrev pub ReadsObject : Instruction → Type 0
+ReadsObject (LoadField x y f) = Unit {0}
+ReadsObject (LoadLength x y) = Unit {0}
+ReadsObject (LoadItem x y e) = Unit {0}
+ReadsObject (TakeField x y f) = Unit {0}
+ReadsObject i = ⊥
 
 -- code that begins with one
 abbrev pub IsReading : Code → Type 0
-IsReading (Do at i rest) = Reads i
+IsReading (Do at i rest) = ReadsObject i
 IsReading c = ⊥
 
 -- what the turn of such code does, by what it asks and is told: it traps, or what is read comes into a variable
@@ -45,7 +45,7 @@ pub data ReadTo (u : UnitCode) (l : Own) (w : Held) : Code → List (Frame Held)
   taken : (at : Span) (x y f : ℕ) (rest : Code) (st : List (Frame Held)) (r : Name) (n : ℕ) (l' : Own) → slice_get l.vars y ≡ Some (Some (Reference r n)) → Stays u l l' (assign l.vars x w) → ReadTo u l w (Do at (TakeField x y f) rest) st (Take r f) (On l' rest st)
 
 module _ (u : UnitCode) (l : Own) (w : Held) where
-  none-created : (i : Instruction) (shape : Shape) (n y : ℕ) → Creates u l i shape n y → Reads i → ⊥
+  none-created : (i : Instruction) (shape : Shape) (n y : ℕ) → Creates u l i shape n y → ReadsObject i → ⊥
   none-created _ _ _ _ (object y c ts q) is = is
   none-created _ _ _ _ (array y e n) is = is
 
@@ -53,7 +53,7 @@ module _ (u : UnitCode) (l : Own) (w : Held) where
   read-to _ _ _ _ is (dying c st e) = traps c st e
   read-to _ _ _ _ is (acting p i rest st o vs l' acts stays) = read i o vs acts is stays
     where
-      read : (i : Instruction) (o : Op) (vs : List Held) → Acts u l w i o vs → Reads i → Stays u l l' vs → ReadTo u l w (Do p i rest) st o (On l' rest st)
+      read : (i : Instruction) (o : Op) (vs : List Held) → Acts u l w i o vs → ReadsObject i → Stays u l l' vs → ReadTo u l w (Do p i rest) st o (On l' rest st)
       read _ _ _ (loads x y f r n here) is stays = field p x y f rest st r n l' here stays
       read _ _ _ (measures x y r n here) is stays = length p x y rest st _ l' stays
       read _ _ _ (reads x y e r n f here) is stays = item p x y e rest st r n f l' here stays
