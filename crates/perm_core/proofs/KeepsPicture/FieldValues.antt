@@ -2,7 +2,7 @@
 use Rattle.std.proofs.Common.{◌≡◌, ℕ, zero, suc, ◌+◌, true, false, Option, Some, None, List, [], ◌∷◌, length, refl, sym, ap, subst, ◌∙◌, arith}
 use Rattle.std.specs.Prelude.{not, ℤ, slice_get}
 use Rattle.std.specs.List.{list_all}
-use Rattle.std.proofs.lemmas.Bool.{not-true}
+use Rattle.std.proofs.lemmas.Bool.{not-true, and_parts}
 use Rattle.perm_tree.specs.declared.ast.Shape.TheVariants.{Class, Array}
 use Rattle.perm_tree.specs.declared.ast.Ty.{Ty}
 use Rattle.perm_tree.specs.Code.{Routine, UnitCode}
@@ -12,7 +12,7 @@ use Rattle.perm_meaning.specs.Values.{Value, Number, Truth, Null, Reference}
 use Rattle.perm_meaning.specs.Names.{Name}
 use Rattle.perm_meaning.specs.Objects.{Object, Objects, value_in, field_of}
 use Rattle.perm_meaning.proofs.Leads.{none_some, some_inj}
-use Rattle.perm_meaning.proofs.SameName.{both, together}
+use Rattle.perm_meaning.proofs.SameName.{together}
 use Rattle.perm_core.specs.Regions.{OfField, Labels, is_absent, field_may_lead}
 use Rattle.perm_core.specs.Picture.{context_if, context_of, length_fits, has_shape, value_fits, fields_fit, is_number, class_fits, values_fit, object_fits}
 use Rattle.perm_core.proofs.KeepsPicture.Returns.{shape-true}
@@ -40,17 +40,17 @@ module _ (u : UnitCode) (labels : Labels) (h : Objects Name) (o : Name) where
   same-lengths i [] [] e = refl
   same-lengths i [] (v ∷ vs) e = absurd (let no : ⊥ = cc e in no)
   same-lengths i (t ∷ ts) [] e = absurd (let no : ⊥ = cc e in no)
-  same-lengths i (t ∷ ts) (v ∷ vs) e = ap (λ n. suc n) (same-lengths (suc i) ts vs (both (value_fits h (λ p n. field_may_lead p (OfField o i) (labels o) (labels n)) t v) (fields_fit u labels h o (suc i) ts vs) e).1)
+  same-lengths i (t ∷ ts) (v ∷ vs) e = ap (λ n. suc n) (same-lengths (suc i) ts vs (and_parts (value_fits h (λ p n. field_may_lead p (OfField o i) (labels o) (labels n)) t v) (fields_fit u labels h o (suc i) ts vs) e).1)
 
   from-number : (i : ℕ) (ts : List Ty) (vs : List (Value Name)) → fields_fit u labels h o i ts vs ≡ true → (f : ℕ) (t : Ty) (v : Value Name) → slice_get ts f ≡ Some t → slice_get vs f ≡ Some v → (g : ℕ) → g ≡ i + f → Fits g t v
   from-number i [] vs e f t v is has g q = none_some is
   from-number i (s ∷ ts) [] e f t v is has g q = none_some has
   from-number i (s ∷ ts) (a ∷ vs) e zero t v is has g q =
       let same : g ≡ i = omega (arith, q) in
-      let first = (both (value_fits h (λ p n. field_may_lead p (OfField o i) (labels o) (labels n)) s a) (fields_fit u labels h o (suc i) ts vs) e).0 in
+      let first = (and_parts (value_fits h (λ p n. field_may_lead p (OfField o i) (labels o) (labels n)) s a) (fields_fit u labels h o (suc i) ts vs) e).0 in
       subst (λ (j : ℕ). Fits j t v) (sym same) (subst (λ (b : Value Name). Fits i t b) (some_inj has) (subst (λ (b : Ty). Fits i b a) (some_inj is) first))
   from-number i (s ∷ ts) (a ∷ vs) e (suc f) t v is has g q =
-      from-number (suc i) ts vs (both (value_fits h (λ p n. field_may_lead p (OfField o i) (labels o) (labels n)) s a) (fields_fit u labels h o (suc i) ts vs) e).1 f t v is has g (omega (arith, q))
+      from-number (suc i) ts vs (and_parts (value_fits h (λ p n. field_may_lead p (OfField o i) (labels o) (labels n)) s a) (fields_fit u labels h o (suc i) ts vs) e).1 f t v is has g (omega (arith, q))
 
   -- what is known of fields that fit
   pub fields-each : (ts : List Ty) (vs : List (Value Name)) → fields_fit u labels h o 0 ts vs ≡ true → FieldsFit u labels h o ts vs
@@ -91,8 +91,8 @@ module _ (u : UnitCode) (labels : Labels) (h : Objects Name) (o : Name) where
       go : (x : Option (Object Name)) → h o ≡ x → object_fits u labels h o x ≡ true → has_shape x (Class k) len ≡ true → IsOfClass k
       go None q fits shaped = absurd (let no : ⊥ = cc shaped in no)
       go (Some x) q fits shaped =
-          let p = both (not (is_absent (labels o))) (values_fit u labels h o x.shape x.values) fits in
-          let s = shape-true x.shape (Class k) (both (same_shape x.shape (Class k)) (length_fits (Class k) (length x.values) len) shaped).0 in
+          let p = and_parts (not (is_absent (labels o))) (values_fit u labels h o x.shape x.values) fits in
+          let s = shape-true x.shape (Class k) (and_parts (same_shape x.shape (Class k)) (length_fits (Class k) (length x.values) len) shaped).0 in
           classed x q s (not-true (is_absent (labels o)) p.0) (slice_get u.classes k) refl (sym (ap (λ s. values_fit u labels h o s x.values) s) ∙ p.1)
 
   -- what a field of it holds fits the type of the field
@@ -103,8 +103,8 @@ module _ (u : UnitCode) (labels : Labels) (h : Objects Name) (o : Name) where
 
   numbered : (vs : List (Value Name)) (f : ℕ) (v : Value Name) → list_all (is_number u labels h) vs ≡ true → slice_get vs f ≡ Some v → is_number u labels h v ≡ true
   numbered [] f v e q = none_some q
-  numbered (a ∷ vs) zero v e q = sym (ap (λ b. is_number u labels h b) (some_inj q)) ∙ (both (is_number u labels h a) (list_all (is_number u labels h) vs) e).0
-  numbered (a ∷ vs) (suc f) v e q = numbered vs f v (both (is_number u labels h a) (list_all (is_number u labels h) vs) e).1 q
+  numbered (a ∷ vs) zero v e q = sym (ap (λ b. is_number u labels h b) (some_inj q)) ∙ (and_parts (is_number u labels h a) (list_all (is_number u labels h) vs) e).0
+  numbered (a ∷ vs) (suc f) v e q = numbered vs f v (and_parts (is_number u labels h a) (list_all (is_number u labels h) vs) e).1 q
 
   -- the elements of an array are numbers
   pub item-fits : (len f : ℕ) (v : Value Name) → object_fits u labels h o (h o) ≡ true → has_shape (h o) Array len ≡ true → field_of h o f ≡ Some v → (n : ℤ) × (v ≡ Number n)
@@ -119,6 +119,6 @@ module _ (u : UnitCode) (labels : Labels) (h : Objects Name) (o : Name) where
       go : (x : Option (Object Name)) → object_fits u labels h o x ≡ true → has_shape x Array len ≡ true → value_in x f ≡ Some v → (n : ℤ) × (v ≡ Number n)
       go None fits shaped found = none_some found
       go (Some x) fits shaped found =
-          let p = both (not (is_absent (labels o))) (values_fit u labels h o x.shape x.values) fits in
-          let s = shape-true x.shape Array (both (same_shape x.shape Array) (length_fits Array (length x.values) len) shaped).0 in
+          let p = and_parts (not (is_absent (labels o))) (values_fit u labels h o x.shape x.values) fits in
+          let s = shape-true x.shape Array (and_parts (same_shape x.shape Array) (length_fits Array (length x.values) len) shaped).0 in
           number v (numbered x.values f v (sym (ap (λ s. values_fit u labels h o s x.values) s) ∙ p.1) found)

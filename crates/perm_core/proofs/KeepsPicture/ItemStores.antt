@@ -1,7 +1,7 @@
 -- A number is stored in an element of an array: the branch and the objects fit after it, the changed one included.
 use Rattle.std.proofs.Common.{◌≡◌, ℕ, true, false, Some, None, List, refl, sym, ap, subst, ◌∙◌}
 use Rattle.std.specs.Prelude.{◌||◌, not, nat_eq, ℤ, option_and_then, slice_get, slice_set}
-use Rattle.std.proofs.lemmas.Bool.{or_parts, or_left}
+use Rattle.std.proofs.lemmas.Bool.{or_parts, or_left, and_parts}
 use Rattle.perm_tree.specs.declared.ast.Shape.{Shape}
 use Rattle.perm_tree.specs.declared.ast.Shape.TheVariants.{Class, Array}
 use Rattle.perm_tree.specs.declared.ast.Span.{Span}
@@ -24,7 +24,7 @@ use Rattle.perm_meaning.specs.Objects.{Object, Objects, put}
 use Rattle.perm_meaning.specs.Machine.{Frame, Way, Here, On, done}
 use Rattle.perm_meaning.specs.NamedHeap.{Held, Heap, Own, Branch, stored}
 use Rattle.perm_meaning.proofs.Leads.{none_some, some_inj}
-use Rattle.perm_meaning.proofs.SameName.{both, eq_itself}
+use Rattle.perm_meaning.proofs.SameName.{eq_itself}
 use Rattle.perm_core.specs.Core.{core}
 use Rattle.perm_core.specs.Regions.{Zone, OfVariable, Labels, var_may_lead, calls, top_zone}
 use Rattle.perm_core.specs.Picture.{context_of, has_shape, variables_fit, stack_fits, tree_fits, values_fit, object_fits, valued, context_above, RestGoes}
@@ -79,7 +79,7 @@ module _ (u : UnitCode) (labels : Labels) (heap : Heap) (at : Way → Way) (z : 
       of_type (Long, q) = absurd (let w = sym (ap (λ o. if_known o (λ t. not (is_long_array t))) q) ∙ wrong in let no : ⊥ = cc w in no)
       of_type (Boolean, q) = absurd (let w = sym (ap (λ o. if_known o (λ t. not (is_long_array t))) q) ∙ wrong in let no : ⊥ = cc w in no)
       of_type (Ref p (Class k), q) = absurd (let w = sym (ap (λ o. if_known o (λ t. not (is_long_array t))) q) ∙ wrong in let no : ⊥ = cc w in no)
-      of_type (Ref p Array, q) = (both (has_shape (h r) Array len) (var_may_lead p (OfVariable (at Here) (calls st) y) (top_zone (at Here) z st) (labels r)) (fit.each y (Ref p Array) (Reference r len) q here)).0
+      of_type (Ref p Array, q) = (and_parts (has_shape (h r) Array len) (var_may_lead p (OfVariable (at Here) (calls st) y) (top_zone (at Here) z st) (labels r)) (fit.each y (Ref p Array) (Reference r len) q here)).0
 
   changed : (o : Object Name) → h r ≡ Some o → values_fit u labels more r o.shape o.values ≡ true → values_fit u labels more r o.shape (slice_set o.values f (Number n)) ≡ true
   changed o q k = go o.shape (told-shape h r o Array len q receiver) k

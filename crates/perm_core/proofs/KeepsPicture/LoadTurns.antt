@@ -1,7 +1,7 @@
 -- A field, an element or a length is read into a variable: the branch and the objects fit after it. An isolated field that is read through an immutable variable is frozen.
 use Rattle.std.proofs.Common.{◌≡◌, ℕ, Bool, true, false, Option, Some, None, List, [], ◌∷◌, refl, sym, ap, subst, ◌∙◌, inl, inr}
 use Rattle.std.specs.Prelude.{◌⊎◌, ◌&&◌, ◌||◌, ℤ, cond, slice_get, option_map, is_none}
-use Rattle.std.proofs.lemmas.Bool.{or_parts}
+use Rattle.std.proofs.lemmas.Bool.{or_parts, and_parts}
 use Rattle.perm_tree.specs.declared.ast.Perm.{Perm}
 use Rattle.perm_tree.specs.declared.ast.Perm.TheVariants.{Isolated, Immutable, Readable, Writable}
 use Rattle.perm_tree.specs.declared.ast.Shape.{Shape}
@@ -28,7 +28,6 @@ use Rattle.perm_meaning.specs.Expressions.{assign}
 use Rattle.perm_meaning.specs.Machine.{Frame, Way, Here, On, done}
 use Rattle.perm_meaning.specs.NamedHeap.{Held, Own, Branch, found}
 use Rattle.perm_meaning.specs.Steps.{Found}
-use Rattle.perm_meaning.proofs.SameName.{both}
 use Rattle.perm_core.specs.Core.{core}
 use Rattle.perm_core.specs.Regions.{Zone, Region, Frozen, OwnOf, OfVariable, OfField, Loose, Absent, Labels, same_region, var_may_lead, field_may_lead, calls, top_zone}
 use Rattle.perm_core.specs.Picture.{context_of, has_shape, value_fits, variables_fit, stack_fits, tree_fits, object_fits, valued, context_above, RestGoes}
@@ -250,7 +249,7 @@ module _ (u : UnitCode) (labels : Labels) (h : Objects Name) (at : Way → Way) 
 
   led : (has_shape (h r) (Class ts.k) len ≡ true) × (var_may_lead ts.p (OfVariable (at Here) (calls st) y) (top_zone (at Here) z st) (labels r) ≡ true)
   led =
-      both (has_shape (h r) (Class ts.k) len) (var_may_lead ts.p (OfVariable (at Here) (calls st) y) (top_zone (at Here) z st) (labels r))
+      and_parts (has_shape (h r) (Class ts.k) len) (var_may_lead ts.p (OfVariable (at Here) (calls st) y) (top_zone (at Here) z st) (labels r))
       ((to-all u labels h (top_zone (at Here) z st) (at Here) (calls st) c.vars b.own.vars vars).each y (Ref ts.p (Class ts.k)) (Reference r len) ts.through here)
 
   in-class : field_among (slice_get u.classes ts.k) f ≡ Some ts.field
@@ -357,7 +356,7 @@ load-item-fits u labels h at z below b span x y e rest st H r len f w goes vars 
 
     led : (has_shape (h r) Array len ≡ true) × (var_may_lead through.0 (OfVariable (at Here) (calls st) y) (top_zone (at Here) z st) (labels r) ≡ true)
     led =
-        both (has_shape (h r) Array len) (var_may_lead through.0 (OfVariable (at Here) (calls st) y) (top_zone (at Here) z st) (labels r))
+        and_parts (has_shape (h r) Array len) (var_may_lead through.0 (OfVariable (at Here) (calls st) y) (top_zone (at Here) z st) (labels r))
         ((to-all u labels h (top_zone (at Here) z st) (at Here) (calls st) (context_of u b.own.routine).vars b.own.vars vars).each y (Ref through.0 Array) (Reference r len) through.1 here)
 
     d : (a : Value Name) × ((field_of h r f ≡ Some a) × (w ≡ Some a))

@@ -1,7 +1,7 @@
 -- An argument's value is stored in a field: the branch and the objects fit after it, the changed one included.
 use Rattle.std.proofs.Common.{◌≡◌, ℕ, ◌<◌, Bool, true, false, Option, Some, None, List, refl, sym, ap, subst, ◌∙◌, arith, le_refl, inl, inr}
 use Rattle.std.specs.Prelude.{◌⊎◌, ◌&&◌, ◌||◌, not, nat_eq, slice_get, slice_set, is_none}
-use Rattle.std.proofs.lemmas.Bool.{or_parts, or_left, not-false}
+use Rattle.std.proofs.lemmas.Bool.{or_parts, or_left, not-false, and_parts}
 use Rattle.perm_tree.specs.declared.ast.Perm.{Perm}
 use Rattle.perm_tree.specs.declared.ast.Perm.TheVariants.{Isolated, Immutable, Readable, Writable}
 use Rattle.perm_tree.specs.declared.ast.Shape.{Shape}
@@ -26,7 +26,7 @@ use Rattle.perm_meaning.specs.Names.{Name, same_name}
 use Rattle.perm_meaning.specs.Objects.{Object, Objects, put}
 use Rattle.perm_meaning.specs.Machine.{Frame, Way, Here, On, done}
 use Rattle.perm_meaning.specs.NamedHeap.{Held, Heap, Own, Branch, stored}
-use Rattle.perm_meaning.proofs.SameName.{both, eq_itself, eq_true}
+use Rattle.perm_meaning.proofs.SameName.{eq_itself, eq_true}
 use Rattle.perm_core.specs.Core.{core}
 use Rattle.perm_core.specs.Regions.{Zone, Region, OwnOf, OfVariable, OfField, Labels, is_absent, var_may_lead, field_may_lead, calls, zones, top_zone}
 use Rattle.perm_core.specs.Picture.{context_if, context_of, has_shape, value_fits, variables_fit, stack_fits, tree_fits, class_fits, values_fit, object_fits, valued, hidden_above, context_above, RestGoes, stack_hidden}
@@ -145,7 +145,7 @@ module _ (u : UnitCode) (labels : Labels) (heap : Heap) (at : Way → Way) (z : 
   was = one-cases b.own.vars ws a v y (Reference r len) one here
 
   receiver : (has_shape (h r) (Class ts.k) len ≡ true) × (var_may_lead ts.p (OfVariable (at Here) k y) top (labels r) ≡ true)
-  receiver = both (has_shape (h r) (Class ts.k) len) (var_may_lead ts.p (OfVariable (at Here) k y) top (labels r)) (fit.each y (Ref ts.p (Class ts.k)) (Reference r len) ts.is was.0)
+  receiver = and_parts (has_shape (h r) (Class ts.k) len) (var_may_lead ts.p (OfVariable (at Here) k y) top (labels r)) (fit.each y (Ref ts.p (Class ts.k)) (Reference r len) ts.is was.0)
 
   abbrev to : Region
   to = goal_of (field_in c.classes (type_of c y) f) (field_region u labels (slice_get b.own.vars y) f) (region_of u labels (slice_get b.own.vars y))

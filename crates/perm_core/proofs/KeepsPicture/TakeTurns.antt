@@ -1,7 +1,7 @@
 -- An isolated field is taken into a variable, and is null then: its region goes where the value comes, and the branch and the objects fit after it.
 use Rattle.std.proofs.Common.{◌≡◌, ℕ, Bool, true, false, Option, Some, None, List, [], ◌∷◌, refl, sym, ap, subst, ◌∙◌, inl, inr, arith}
 use Rattle.std.specs.Prelude.{◌⊎◌, ◌&&◌, ◌||◌, not, nat_eq, cond, slice_get, slice_set, is_none}
-use Rattle.std.proofs.lemmas.Bool.{or_cases, or_parts, not-true, not-false}
+use Rattle.std.proofs.lemmas.Bool.{or_cases, or_parts, not-true, not-false, and_parts}
 use Rattle.std.proofs.lemmas.Bool.Decides.{nat_tests}
 use Rattle.std.proofs.Math.Bool.{and-false}
 use Rattle.perm_tree.specs.declared.ast.Perm.{Perm}
@@ -30,7 +30,7 @@ use Rattle.perm_meaning.specs.Machine.{Frame, Way, Here, On, done}
 use Rattle.perm_meaning.specs.NamedHeap.{Held, Own, Branch, found}
 use Rattle.perm_meaning.specs.Steps.{Found}
 use Rattle.perm_meaning.proofs.Leads.{some_inj}
-use Rattle.perm_meaning.proofs.SameName.{both, together, name_true}
+use Rattle.perm_meaning.proofs.SameName.{together, name_true}
 use Rattle.perm_core.specs.Core.{core}
 use Rattle.perm_core.specs.Regions.{Zone, Region, Absent, Frozen, OwnOf, OfVariable, OfField, Loose, Labels, same_region, is_absent, is_frozen, var_may_lead, field_may_lead, calls, top_zone}
 use Rattle.perm_core.specs.Picture.{context_of, has_shape, value_fits, variables_fit, stack_fits, tree_fits, class_fits, values_fit, object_fits, valued, context_above, RestGoes}
@@ -128,7 +128,7 @@ free-field e home r cold k = go (or_cases (same_region r e) (is_frozen home && i
   where
     go : (same_region r e ≡ true) ⊎ ((is_frozen home && is_frozen r) ≡ true) → same_region r e ≡ true
     go (inl q) = q
-    go (inr q) = absurd (let t : true ≡ false = sym (both (is_frozen home) (is_frozen r) q).0 ∙ cold in let no : ⊥ = cc t in no)
+    go (inr q) = absurd (let t : true ≡ false = sym (and_parts (is_frozen home) (is_frozen r) q).0 ∙ cold in let no : ⊥ = cc t in no)
 
 module _ (u : UnitCode) (labels : Labels) (h : Objects Name) (at : Way → Way) (z : Zone) (below : List ℕ) (b : Branch) (span : Span) (x y f : ℕ) (rest : Code) (st : List (Frame Held)) (H : Vars) (r : Name) (len : ℕ) (w : Held)
     (goes : RestGoes u below b.own.routine (Do span (TakeField x y f) rest) st (valued b.own.vars) H) (vars : variables_fit u labels h (top_zone (at Here) z st) (at Here) (calls st) 0 (context_of u b.own.routine).vars b.own.vars ≡ true)
@@ -175,7 +175,7 @@ module _ (u : UnitCode) (labels : Labels) (h : Objects Name) (at : Way → Way) 
 
   led : (has_shape (h r) (Class ts.k) len ≡ true) × (var_may_lead ts.p (OfVariable (at Here) (calls st) y) zone (labels r) ≡ true)
   led =
-      both (has_shape (h r) (Class ts.k) len) (var_may_lead ts.p (OfVariable (at Here) (calls st) y) zone (labels r))
+      and_parts (has_shape (h r) (Class ts.k) len) (var_may_lead ts.p (OfVariable (at Here) (calls st) y) zone (labels r))
       ((to-all u labels h zone (at Here) (calls st) c.vars b.own.vars vars).each y (Ref ts.p (Class ts.k)) (Reference r len) ts.through here)
 
   o : IsOfClass u labels h r ts.k
@@ -236,7 +236,7 @@ module _ (u : UnitCode) (labels : Labels) (h : Objects Name) (at : Way → Way) 
   other-object : (n : Name) → same_name n r ≡ false → (a : Option (Object Name)) → object_fits u labels h n a ≡ true → object_fits u after objects-taken n a ≡ true
   other-object n apart None e = none-after (labels n) e
   other-object n apart (Some a) e =
-      let p = both (not (is_absent (labels n))) (values_fit u labels h n a.shape a.values) e in
+      let p = and_parts (not (is_absent (labels n))) (values_fit u labels h n a.shape a.values) e in
       together (not (is_absent (after n))) (values_fit u after objects-taken n a.shape a.values) (ap (λ t. not t) (good.stay (labels n) (not-true (is_absent (labels n)) p.0))) (shaped a.shape p.1)
     where
       classed : (fs : Option (List Ty)) → class_fits u labels h n fs a.values ≡ true → class_fits u after objects-taken n fs a.values ≡ true
