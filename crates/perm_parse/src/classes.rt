@@ -21,12 +21,9 @@ fn nothing_yet(alloc: Global) -> Result<ProgramBuilder, ParseError>
     ensures ok { IfOk result (λ p. p ≡ nothing_yet) }
     ensures err { IfErr result (λ e. e ≡ ParseError.NoMemory) }
 {
-    let this = b"this".to_vec(alloc).map_err(|_| ParseError::NoMemory)?;
     let mut program = ProgramBuilder::new(alloc);
-    match program.push_name(Name::from_vec(this)) {
-        Ok(_) => Ok(program),
-        Err(_) => Err(ParseError::NoMemory),
-    }
+    program.push_name(Name::from_vec(b"this".to_vec(alloc)?))?;
+    Ok(program)
 }
 
 /// The set of the only name `this`.
@@ -35,10 +32,8 @@ fn this_alone<'a>(alloc: Global) -> Result<IndexSet<&'a [u8]>, ParseError>
     ensures err { IfErr result (λ e. e ≡ ParseError.NoMemory) }
 {
     let mut names: IndexSet<&'a [u8]> = IndexSet::new(alloc);
-    match names.insert(b"this") {
-        Ok(_) => Ok(names),
-        Err(_) => Err(ParseError::NoMemory),
-    }
+    names.insert(b"this")?;
+    Ok(names)
 }
 
 /// Reads a program to its end, or up to the first token that is refused.
@@ -68,10 +63,8 @@ impl<'a> Parser<'a> {
         ensures pushed { PushesClass class self.old self.new result }
         ensures onward { Onward self.old self.new }
     {
-        match self.program.push_class(class) {
-            Ok(_) => Ok(()),
-            Err(_) => Err(ParseError::NoMemory),
-        }
+        self.program.push_class(class)?;
+        Ok(())
     }
 
     /// `class C { .. }`

@@ -20,7 +20,7 @@ pub fn append<T: Drop>(list: &mut List<T>, item: T) -> Result<(), ParseError>
     ensures ok { OnOk result (list.new ≡ list.old ++ item ∷ []) }
     ensures err { OnErr result ((result ≡ Err ParseError.NoMemory) × (list.new ≡ list.old)) }
 {
-    list.push(item).map_err(|_| ParseError::NoMemory)
+    Ok(list.push(item)?)
 }
 
 impl<'a> Parser<'a> {
@@ -150,7 +150,7 @@ impl<'a> Parser<'a> {
         ensures onward { Onward self.old self.new }
         ensures below { IfOk result (λ n. n < length self.new.program.exprs) }
     {
-        self.program.push_expr(e).map_err(|_| ParseError::NoMemory)
+        Ok(self.program.push_expr(e)?)
     }
 
     /// The place of a name among those so far.
@@ -171,12 +171,9 @@ impl<'a> Parser<'a> {
         if let Some(at) = self.known(bytes) {
             return u32::try_from(at).map_err(|_| ParseError::NoMemory);
         }
-        let name = bytes.to_vec(self.alloc).map_err(|_| ParseError::NoMemory)?;
-        self.names.reserve(1).map_err(|_| ParseError::NoMemory)?;
-        let number = self
-            .program
-            .push_name(Name::from_vec(name))
-            .map_err(|_| ParseError::NoMemory)?;
+        let name = bytes.to_vec(self.alloc)?;
+        self.names.reserve(1)?;
+        let number = self.program.push_name(Name::from_vec(name))?;
         self.names.insert(bytes).unwrap();
         Ok(number)
     }
@@ -216,9 +213,7 @@ impl<'a> Parser<'a> {
         ensures mentioned { MentionsClass name self.old self.new result }
         ensures onward { Onward self.old self.new }
     {
-        self.program
-            .push_mention(name)
-            .map_err(|_| ParseError::NoMemory)
+        Ok(self.program.push_mention(name)?)
     }
 
     /// Adds a statement, and answers its place.
@@ -228,8 +223,6 @@ impl<'a> Parser<'a> {
         ensures onward { Onward self.old self.new }
         ensures below { IfOk result (λ n. n < length self.new.program.stmts) }
     {
-        self.program
-            .push_stmt(stmt)
-            .map_err(|_| ParseError::NoMemory)
+        Ok(self.program.push_stmt(stmt)?)
     }
 }
