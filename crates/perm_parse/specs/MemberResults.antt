@@ -15,7 +15,7 @@ use Rattle.perm_parse.specs.Grammar.{Is, perm_word, TypeTree, ArgTree, Stmts, Pa
 use Rattle.perm_parse.specs.States.{State, TypeFor, Outer, Open, ClassPart, MethodPart, BodyPart, level_type_for}
 use Rattle.perm_parse.specs.Machine.{after_named_type, end_method}
 use Rattle.perm_parse.specs.Meaning.{ident, type_of, arg_of, stmts_of, param_list_of, params_of, member_of, members_of, classes_of, span_over, meaning}
-use Rattle.perm_parse.specs.ParserResults.{Next, IsAhead, IsHere, Leads, IsRefusal, Refuses}
+use Rattle.perm_parse.specs.ParserResults.{Next, IsHere, TakesToken, Leads, IsRefusal, Refuses}
 use Rattle.perm_parse.specs.Answers.{parsed, read}
 
 -- ---- types with names
@@ -66,7 +66,7 @@ ReadsParams old new (Err e) = (m : MethodPart) → Refuses old (State.params_due
 
 -- the word of a permission is taken
 abbrev pub TakesPerm : Parser → Parser → Result Perm ParseError → Type 0
-TakesPerm old new (Ok p) = (t : Token) × (Next old t × Is (perm_word p) t × IsAhead old new)
+TakesPerm old new (Ok p) = (t : Token) × TakesToken (perm_word p) old new (Ok t)
 TakesPerm old new (Err e) = (e ≡ Unexpected old.at) × ((t : Token) → Next old t → (p : Perm) → Is (perm_word p) t → ⊥)
 
 -- the parameters and the permission of a method were read, up to the brace behind them

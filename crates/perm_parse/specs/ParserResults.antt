@@ -73,8 +73,8 @@ TakesVar old new (Err e) = (e ≡ Unexpected old.at) × ((t : Token) → Next ol
 
 -- a bracket or a unary operator is taken, or it doesn't come next, or it opens a level too many
 abbrev pub OpensLevel : TokenKind → ℕ → Parser → Parser → Result Token ParseError → Type 0
-OpensLevel wanted depth old new (Ok t) = Next old t × Is wanted t × IsAhead old new × (depth < deepest)
-OpensLevel wanted depth old new (Err (Unexpected i)) = (i ≡ old.at) × ((t : Token) → Next old t → Is wanted t → ⊥)
+OpensLevel wanted depth old new (Ok t) = TakesToken wanted old new (Ok t) × (depth < deepest)
+OpensLevel wanted depth old new (Err (Unexpected i)) = TakesToken wanted old new (Err (Unexpected i))
 OpensLevel wanted depth old new (Err (TooDeep i)) = (i ≡ old.at) × IsNext wanted old × (depth ≡ deepest)
 OpensLevel wanted depth old new (Err NoMemory) = ⊥
 

@@ -69,4 +69,3 @@ pub fn lexed()
     ensures order { (text : List ℕ) (tokens : List Token) → Lexes text tokens → AllPairs (λ a b. a.span.end ≤ b.span.start) tokens }
     ensures few { (text : List ℕ) (tokens : List Token) → Lexes text tokens → length text < 2 ^ 32 → length tokens < 2 ^ 32 }
 {}
-

@@ -105,7 +105,7 @@ after_block-level u b (Lead.recover_lead target equals word) a q h = absurd (let
 
 pub block-opens : (old p1 : Parser) (depth : ℕ) (opening : Token) (u : Outer) (b : Stmts) (lead : Lead) → level_outer u ≡ depth → OpensLevel kind.OpenBrace depth old p1 (Ok opening) →
     Leads old (enter (Open.at u b) lead) p1 (State.listing (Open.at (Outer.inside u b lead opening) Stmts.no_stmts))
-block-opens old p1 depth opening u b lead lv o = takes old p1 kind.OpenBrace opening (enter (Open.at u b) lead) (State.listing (Open.at (Outer.inside u b lead opening) Stmts.no_stmts)) (o.0, o.1, o.2) refl (omega (arith, o.3))
+block-opens old p1 depth opening u b lead lv o = takes old p1 kind.OpenBrace opening (enter (Open.at u b) lead) (State.listing (Open.at (Outer.inside u b lead opening) Stmts.no_stmts)) o.0 refl (omega (arith, o.1))
 
 pub block-not-opened : (old new : Parser) (depth : ℕ) (e : ParseError) → OpensLevel kind.OpenBrace depth old new (Err e) → ReadsBlock depth old new (Err e)
 block-not-opened old new depth e o = λ u b lead next lv closes. opened-or old new kind.OpenBrace depth _ _ _ e (λ t. omega arith) (λ t. refl) o
@@ -124,8 +124,8 @@ pub block-ok : (old p1 p2 new : Parser) (depth : ℕ) (opening closing : Token) 
     BlockRead depth old new (record { block = record { stmts = list }; closing = closing })
 block-ok old p1 p2 new depth opening closing list le o g h = record {
   tree = BlockTree.block opening g.tree closing;
-  is = rw (g.is, o.2.text, o.2.program) refl;
-  program = h.2.program ∙ g.program ∙ rw (o.2.text, o.2.program) refl;
+  is = rw (g.is, o.0.2.text, o.0.2.program) refl;
+  program = h.2.program ∙ g.program ∙ rw (o.0.2.text, o.0.2.program) refl;
   last = refl;
   leads = λ u b lead next lv closes.
       via (block-opens old p1 depth opening u b lead lv o)

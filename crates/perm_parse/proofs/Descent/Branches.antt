@@ -26,7 +26,7 @@ test-not-opened old new depth e o = λ so_far d purpose next between. opened-or 
 
 test-opens : (old p1 : Parser) (depth : ℕ) (opening : Token) (so_far : List Token → List Token) (d : ℕ) (purpose : Token → Purpose) (next : Token → ExprTree → Token → State) → Between depth purpose next → OpensLevel kind.OpenParen depth old p1 (Ok opening) →
     Leads old (test_due so_far d purpose) p1 (State.operand [] (purpose opening))
-test-opens old p1 depth opening so_far d purpose next between o = takes old p1 kind.OpenParen opening (test_due so_far d purpose) (State.operand [] (purpose opening)) (o.0, o.1, o.2) refl (omega (arith, o.3, between.level opening))
+test-opens old p1 depth opening so_far d purpose next between o = takes old p1 kind.OpenParen opening (test_due so_far d purpose) (State.operand [] (purpose opening)) o.0 refl (omega (arith, o.1, between.level opening))
 
 pub test-value : (old p1 new : Parser) (depth : ℕ) (opening : Token) (e : ParseError) → OpensLevel kind.OpenParen depth old p1 (Ok opening) → ReadsExpr 6 (depth + 1) p1 new (Err e) → ReadsTest depth old new (Err e)
 test-value old p1 new depth opening e o r = λ so_far d purpose next between. refused (test-opens old p1 depth opening so_far d purpose next between o) (r [] (purpose opening) (between.level opening) tt)
@@ -41,8 +41,8 @@ pub test-ok : (old p1 p2 new : Parser) (depth x : ℕ) (opening closing : Token)
 test-ok old p1 p2 new depth x opening closing le o g h = record {
   opening = opening;
   tree = g.tree;
-  place = g.place ∙ rw (o.2.text, o.2.program) refl;
-  program = h.2.program ∙ g.program ∙ rw (o.2.text, o.2.program) refl;
+  place = g.place ∙ rw (o.0.2.text, o.0.2.program) refl;
+  program = h.2.program ∙ g.program ∙ rw (o.0.2.text, o.0.2.program) refl;
   leads = λ so_far d purpose next between.
       via (test-opens old p1 depth opening so_far d purpose next between o)
       (via (g.leads [] (purpose opening) (between.level opening) tt)

@@ -180,7 +180,7 @@ class-opens : (old p1 p2 p3 p4 : Parser) (word name opening : Token) (i : Ident)
     Leads old (State.between_classes list) p4 (State.in_class (ClassPart.class_part list word name opening Members.no_members))
 class-opens old p1 p2 p3 p4 word name opening i list h o =
     via (takes old p1 kind.Class word (State.between_classes list) _ h.begins refl (omega arith)) (via (takes p1 p2 kind.Name name _ _ h.name_next refl (omega arith)) (via (here p2 p3 _ h.numbered.2)
-    (takes p3 p4 kind.OpenBrace opening _ (State.in_class (ClassPart.class_part list word name opening Members.no_members)) (o.0, o.1, o.2) refl (omega arith))))
+    (takes p3 p4 kind.OpenBrace opening _ (State.in_class (ClassPart.class_part list word name opening Members.no_members)) o.0 refl (omega arith))))
 
 pub class-members : (old p1 p2 p3 p4 new : Parser) (word name opening : Token) (i : Ident) (e : ParseError) → ClassPath old p1 p2 p3 word name i → OpensLevel kind.OpenBrace 0 p3 p4 (Ok opening) → ReadsMembers p4 new (Err e) → ReadsClass old new (Err e)
 class-members old p1 p2 p3 p4 new word name opening i e h o r = λ list. refused (class-opens old p1 p2 p3 p4 word name opening i list h o) (r list word name opening)
@@ -199,7 +199,7 @@ class-added old p1 p2 p3 p4 p5 new word name opening i class (Ok u) h o g same d
       opening = opening;
       members = g.tree;
       closing = g.closing;
-      program = d.0 ∙ rw (whole, g.program, o.2.text, n.2.text, h.name_next.2.text, h.begins.2.text, o.2.program, n.0, n.1, h.name_next.2.text, h.begins.2.text, h.name_next.2.program, h.begins.2.program) refl;
+      program = d.0 ∙ rw (whole, g.program, o.0.2.text, n.2.text, h.name_next.2.text, h.begins.2.text, o.0.2.program, n.0, n.1, h.name_next.2.text, h.begins.2.text, h.name_next.2.program, h.begins.2.program) refl;
       leads = λ list. via (class-opens old p1 p2 p3 p4 word name opening i list h o) (via (g.leads list word name opening) (here p5 new (State.between_classes (Classes.more_classes list word name opening g.tree g.closing)) d.1));
     }
 class-added old p1 p2 p3 p4 p5 new word name opening i class (Err e) h o g same d = λ list. no-memory old (State.between_classes list) e d

@@ -59,7 +59,7 @@ pub given-args : (old p1 p2 p3 p4 p5 p6 p7 new : Parser) (depth : ℕ) (t closin
     ReadsArgs (depth + 1) p7 new (Err e) → ReadsGiven depth old new (Err e)
 given-args old p1 p2 p3 p4 p5 p6 p7 new depth t closing dot member paren i f e lt h o r = λ k opening word lv.
     let c = CallPart.call_part k (RecvTree.given opening word t closing) dot member paren in
-    refused (via (path old p1 p2 p3 p4 p5 p6 depth t closing dot member i f k opening word lt lv h) (takes p6 p7 kind.OpenParen paren (opens_args k (RecvTree.given opening word t closing) dot member) (State.args_due c) (o.0, o.1, o.2) refl (omega arith)))
+    refused (via (path old p1 p2 p3 p4 p5 p6 depth t closing dot member i f k opening word lt lv h) (takes p6 p7 kind.OpenParen paren (opens_args k (RecvTree.given opening word t closing) dot member) (State.args_due c) o.0 refl (omega arith)))
     (r c (omega arith))
 
 pub given-ok : (old p1 p2 p3 p4 p5 p6 p7 new : Parser) (depth : ℕ) (t closing dot member paren : Token) (i f : Ident) (list : List Arg) → depth < deepest → GivenPath old p1 p2 p3 p4 p5 p6 t closing dot member i f → OpensLevel kind.OpenParen depth p6 p7 (Ok paren) →
@@ -72,12 +72,12 @@ given-ok old p1 p2 p3 p4 p5 p6 p7 new depth t closing dot member paren i f list 
   paren = paren;
   list = g.tree;
   end = g.closing;
-  is = λ opening word. rw (g.is, h.name.0, h.variable.0, o.2.text, o.2.program, h.name.2.text, h.name.1, h.member_next.2.text, h.member_next.2.program, h.dot_next.2.text, h.dot_next.2.program, h.closed.2.text, h.closed.2.program, h.variable.2.text, h.variable.1, h.receiver.2.text, h.receiver.2.program) refl;
-  program = λ opening word. g.program ∙ rw (o.2.text, o.2.program, h.name.2.text, h.name.1, h.member_next.2.text, h.member_next.2.program, h.dot_next.2.text, h.dot_next.2.program, h.closed.2.text, h.closed.2.program, h.variable.2.text, h.variable.1, h.receiver.2.text, h.receiver.2.program) refl;
+  is = λ opening word. rw (g.is, h.name.0, h.variable.0, o.0.2.text, o.0.2.program, h.name.2.text, h.name.1, h.member_next.2.text, h.member_next.2.program, h.dot_next.2.text, h.dot_next.2.program, h.closed.2.text, h.closed.2.program, h.variable.2.text, h.variable.1, h.receiver.2.text, h.receiver.2.program) refl;
+  program = λ opening word. g.program ∙ rw (o.0.2.text, o.0.2.program, h.name.2.text, h.name.1, h.member_next.2.text, h.member_next.2.program, h.dot_next.2.text, h.dot_next.2.program, h.closed.2.text, h.closed.2.program, h.variable.2.text, h.variable.1, h.receiver.2.text, h.receiver.2.program) refl;
   leads = λ k opening word lv.
       let c = CallPart.call_part k (RecvTree.given opening word t closing) dot member paren in
       via (path old p1 p2 p3 p4 p5 p6 depth t closing dot member i f k opening word lt lv h)
-      (via (takes p6 p7 kind.OpenParen paren (opens_args k (RecvTree.given opening word t closing) dot member) (State.args_due c) (o.0, o.1, o.2) refl (omega arith)) (g.leads c (omega arith)));
+      (via (takes p6 p7 kind.OpenParen paren (opens_args k (RecvTree.given opening word t closing) dot member) (State.args_due c) o.0 refl (omega arith)) (g.leads c (omega arith)));
 }
 
 -- ---- on the right side
@@ -87,12 +87,12 @@ value-not-opened old new depth e le next o = λ a lv. not-opened old new kind.Op
 
 -- the word that comes second isn't missed
 pub word-missed : (old p1 new : Parser) (depth : ℕ) (opening : Token) (e : ParseError) → IsSecond kind.Consume old → OpensLevel kind.OpenParen depth old p1 (Ok opening) → TakesToken kind.Consume p1 new (Err e) → ⊥
-word-missed old p1 new depth opening e next o miss = miss.1 next.0 (rw (o.2.at, o.2.tokens) next.1.0) next.1.1
+word-missed old p1 new depth opening e next o miss = miss.1 next.0 (rw (o.0.2.at, o.0.2.tokens) next.1.0) next.1.1
 
 value-opens : (old p1 p2 : Parser) (depth : ℕ) (opening word : Token) (a : Assigning) → level_assigning a ≡ depth → OpensLevel kind.OpenParen depth old p1 (Ok opening) → TakesToken kind.Consume p1 p2 (Ok word) → Leads old (State.value_due a) p2 (gives_receiver (CallFor.to_assign a) opening word)
 value-opens old p1 p2 depth opening word a lv o h =
-    via (takes old p1 kind.OpenParen opening (State.value_due a) (State.paren_seen a opening) (o.0, o.1, o.2) refl (omega (arith, o.3)))
-    (takes p1 p2 kind.Consume word (State.paren_seen a opening) (gives_receiver (CallFor.to_assign a) opening word) h refl (omega (arith, o.3)))
+    via (takes old p1 kind.OpenParen opening (State.value_due a) (State.paren_seen a opening) o.0 refl (omega (arith, o.1)))
+    (takes p1 p2 kind.Consume word (State.paren_seen a opening) (gives_receiver (CallFor.to_assign a) opening word) h refl (omega (arith, o.1)))
 
 pub value-call : (old p1 p2 new : Parser) (depth : ℕ) (opening word : Token) (e : ParseError) → OpensLevel kind.OpenParen depth old p1 (Ok opening) → TakesToken kind.Consume p1 p2 (Ok word) → ReadsGiven depth p2 new (Err e) → ReadsValue depth old new (Err e)
 value-call old p1 p2 new depth opening word e o h r = λ a lv. refused (value-opens old p1 p2 depth opening word a lv o h) (r (CallFor.to_assign a) opening word lv)
@@ -108,8 +108,8 @@ value-ok old p1 p2 p3 new depth opening word end c le o h g s =
     let tree = CallTree.call (RecvTree.given opening word g.name g.closing) g.dot g.member g.paren g.list g.end in
     record {
       tree = RhsTree.called tree;
-      is = ap (λ (x : Call). right.Call x) (g.is opening word) ∙ rw (h.2.text, h.2.program, o.2.text, o.2.program) refl;
-      program = s.2.program ∙ g.program opening word ∙ rw (h.2.text, h.2.program, o.2.text, o.2.program) refl;
+      is = ap (λ (x : Call). right.Call x) (g.is opening word) ∙ rw (h.2.text, h.2.program, o.0.2.text, o.0.2.program) refl;
+      program = s.2.program ∙ g.program opening word ∙ rw (h.2.text, h.2.program, o.0.2.text, o.0.2.program) refl;
       head = refl;
       leads = λ a lv.
           via (value-opens old p1 p2 depth opening word a lv o h) (via (g.leads (CallFor.to_assign a) opening word lv)

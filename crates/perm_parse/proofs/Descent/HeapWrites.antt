@@ -29,7 +29,7 @@ item-not-opened old p1 p2 new depth t i e le next h1 v o = λ u b lv.
 opens : (old p1 p2 p3 : Parser) (depth : ℕ) (t opening : Token) (i : Ident) (u : Outer) (b : Stmts) → depth ≤ deepest → level_outer u ≡ depth → TakesVar old p1 (Ok t) → NamesVar t p1 p2 (Ok i) → OpensLevel kind.OpenBracket depth p2 p3 (Ok opening) →
     Leads old (State.listing (Open.at u b)) p3 (State.operand [] (Purpose.to_index (Open.at u b) t opening))
 opens old p1 p2 p3 depth t opening i u b le lv h1 v o =
-    via (begins old p1 p2 depth t i (Open.at u b) le lv h1 v) (takes p2 p3 kind.OpenBracket opening (State.begun (Open.at u b) t) _ (o.0, o.1, o.2) refl (omega (arith, o.3)))
+    via (begins old p1 p2 depth t i (Open.at u b) le lv h1 v) (takes p2 p3 kind.OpenBracket opening (State.begun (Open.at u b) t) _ o.0 refl (omega (arith, o.1)))
 
 pub item-index : (old p1 p2 p3 new : Parser) (depth : ℕ) (t opening : Token) (i : Ident) (e : ParseError) → depth ≤ deepest → TakesVar old p1 (Ok t) → NamesVar t p1 p2 (Ok i) → OpensLevel kind.OpenBracket depth p2 p3 (Ok opening) → ReadsExpr 6 (depth + 1) p3 new (Err e) →
     ReadsStmt depth old new (Err e)
@@ -84,8 +84,8 @@ item-is old p1 p2 p3 p4 p5 p6 p7 new depth x y t opening closing equals i (Ok n)
     let tree = StmtTree.set_item t opening h.index.tree closing equals g.tree d.end in
     record {
       tree = tree;
-      place = d.place ∙ rw (g.program, h.sign.2.text, h.sign.2.program, h.closed.2.text, h.closed.2.program, h.text, h.index.program, h.opened.2.text, h.opened.2.program, h.variable.2.text, h.variable.1, h.receiver.2.text, h.receiver.2.program) refl;
-      program = d.program ∙ rw (g.place, g.program, h.sign.2.text, h.sign.2.program, h.closed.2.text, h.closed.2.program, h.text, h.index.place, h.index.program, h.opened.2.text, h.opened.2.program, h.variable.0, h.variable.2.text, h.variable.1, h.receiver.2.text, h.receiver.2.program) refl;
+      place = d.place ∙ rw (g.program, h.sign.2.text, h.sign.2.program, h.closed.2.text, h.closed.2.program, h.text, h.index.program, h.opened.0.2.text, h.opened.0.2.program, h.variable.2.text, h.variable.1, h.receiver.2.text, h.receiver.2.program) refl;
+      program = d.program ∙ rw (g.place, g.program, h.sign.2.text, h.sign.2.program, h.closed.2.text, h.closed.2.program, h.text, h.index.place, h.index.program, h.opened.0.2.text, h.opened.0.2.program, h.variable.0, h.variable.2.text, h.variable.1, h.receiver.2.text, h.receiver.2.program) refl;
       leads = λ u b lv.
           let k = Purpose.to_item (Open.at u b) t opening h.index.tree closing equals in
           via (value-due old p1 p2 p3 p4 p5 p6 depth x t opening closing equals i u b le lv h) (via (g.leads [] k lv tt)

@@ -73,7 +73,7 @@ call-not-opened old p1 p2 p3 p4 p5 new depth t dot m i f e le h next o = λ a lv
 opens : (old p1 p2 p3 p4 p5 p6 : Parser) (depth : ℕ) (t dot m opening : Token) (i f : Ident) (a : Assigning) → depth ≤ deepest → level_assigning a ≡ depth → MemberPath old p1 p2 p3 p4 p5 t dot m i f → OpensLevel kind.OpenParen depth p5 p6 (Ok opening) →
     Leads old (State.value_due a) p6 (State.args_due (CallPart.call_part (CallFor.to_assign a) (RecvTree.lent t) dot m opening))
 opens old p1 p2 p3 p4 p5 p6 depth t dot m opening i f a le lv h o =
-    via (member old p1 p2 p3 p4 p5 depth t dot m i f a le lv h) (takes p5 p6 kind.OpenParen opening (State.value_member a t dot m) _ (o.0, o.1, o.2) refl (omega (arith, o.3)))
+    via (member old p1 p2 p3 p4 p5 depth t dot m i f a le lv h) (takes p5 p6 kind.OpenParen opening (State.value_member a t dot m) _ o.0 refl (omega (arith, o.1)))
 
 pub call-args : (old p1 p2 p3 p4 p5 p6 new : Parser) (depth : ℕ) (t dot m opening : Token) (i f : Ident) (e : ParseError) → depth ≤ deepest → MemberPath old p1 p2 p3 p4 p5 t dot m i f → OpensLevel kind.OpenParen depth p5 p6 (Ok opening) → ReadsArgs (depth + 1) p6 new (Err e) → ReadsValue depth old new (Err e)
 call-args old p1 p2 p3 p4 p5 p6 new depth t dot m opening i f e le h o r = λ a lv.
@@ -90,8 +90,8 @@ pub call-ok : (old p1 p2 p3 p4 p5 p6 p7 new : Parser) (depth : ℕ) (t dot m ope
     ReadsArgs (depth + 1) p6 p7 (Ok list) → TakesToken kind.Semicolon p7 new (Ok end) → ValueRead depth old new (record { rhs = right.Call (record { consumed = false; on = i; method = f; args = list }); head = end; end = end })
 call-ok old p1 p2 p3 p4 p5 p6 p7 new depth t dot m opening end i f list le h o g s = record {
   tree = RhsTree.called (CallTree.call (RecvTree.lent t) dot m opening g.tree g.closing);
-  is = rw (g.is, h.name.0, h.variable.0, o.2.text, o.2.program, h.name.2.text, h.name.1, h.member_next.2.text, h.member_next.2.program, h.dot_next.2.text, h.dot_next.2.program, h.variable.2.text, h.variable.1, h.receiver.2.text, h.receiver.2.program) refl;
-  program = s.2.program ∙ g.program ∙ rw (o.2.text, o.2.program, h.name.2.text, h.name.1, h.member_next.2.text, h.member_next.2.program, h.dot_next.2.text, h.dot_next.2.program, h.variable.2.text, h.variable.1, h.receiver.2.text, h.receiver.2.program) refl;
+  is = rw (g.is, h.name.0, h.variable.0, o.0.2.text, o.0.2.program, h.name.2.text, h.name.1, h.member_next.2.text, h.member_next.2.program, h.dot_next.2.text, h.dot_next.2.program, h.variable.2.text, h.variable.1, h.receiver.2.text, h.receiver.2.program) refl;
+  program = s.2.program ∙ g.program ∙ rw (o.0.2.text, o.0.2.program, h.name.2.text, h.name.1, h.member_next.2.text, h.member_next.2.program, h.dot_next.2.text, h.dot_next.2.program, h.variable.2.text, h.variable.1, h.receiver.2.text, h.receiver.2.program) refl;
   head = refl;
   leads = λ a lv.
       let c = CallPart.call_part (CallFor.to_assign a) (RecvTree.lent t) dot m opening in

@@ -53,7 +53,7 @@ perm-taken old new m list closing p h = stepped old new h.0 (State.perm_due m li
 -- ---- what stands between the name and the body
 
 paren-opens : (old p1 : Parser) (c : ClassPart) (ty : TypeTree) (name opening : Token) → OpensLevel kind.OpenParen 1 old p1 (Ok opening) → Leads old (State.member_named c ty name) p1 (State.params_due (MethodPart.method_part c ty name opening))
-paren-opens old p1 c ty name opening o = takes old p1 kind.OpenParen opening (State.member_named c ty name) (State.params_due (MethodPart.method_part c ty name opening)) (o.0, o.1, o.2) refl (omega arith)
+paren-opens old p1 c ty name opening o = takes old p1 kind.OpenParen opening (State.member_named c ty name) (State.params_due (MethodPart.method_part c ty name opening)) o.0 refl (omega arith)
 
 pub signature-not-opened : (old new : Parser) (e : ParseError) → IsNext kind.OpenParen old → OpensLevel kind.OpenParen 1 old new (Err e) → ReadsSignature old new (Err e)
 signature-not-opened old new e next o = λ c ty name.
@@ -81,14 +81,14 @@ signature-ok old p1 p2 p3 new opening start list p o g h b = record {
   closing = g.closing;
   word = h.0;
   start = start;
-  is = rw (g.is, o.2.text, o.2.program) refl;
-  program = b.2.program ∙ h.1.2.program ∙ g.program ∙ rw (o.2.text, o.2.program) refl;
+  is = rw (g.is, o.0.2.text, o.0.2.program) refl;
+  program = b.0.2.program ∙ h.1.2.program ∙ g.program ∙ rw (o.0.2.text, o.0.2.program) refl;
   leads = λ c ty name.
       let m = MethodPart.method_part c ty name opening in
       via (paren-opens old p1 c ty name opening o)
       (via (g.leads m)
       (via (perm-taken p2 p3 m g.tree g.closing p h)
-      (takes p3 new kind.OpenBrace start (opens_body m g.tree g.closing p h.0) (State.listing (Open.at (Outer.body (BodyPart.body_part m g.tree g.closing p h.0 start)) Stmts.no_stmts)) (b.0, b.1, b.2) refl (omega arith))));
+      (takes p3 new kind.OpenBrace start (opens_body m g.tree g.closing p h.0) (State.listing (Open.at (Outer.body (BodyPart.body_part m g.tree g.closing p h.0 start)) Stmts.no_stmts)) b.0 refl (omega arith))));
 }
 
 -- ---- what stands behind the statements

@@ -49,7 +49,7 @@ pub object-not-closed : (old p1 p2 p3 p4 p5 new : Parser) (depth : ℕ) (word t 
 object-not-closed old p1 p2 p3 p4 p5 new depth word t opening i e le h1 h2 n m o miss = λ a lv.
     refused (via (takes old p1 kind.New word (State.value_due a) (State.new_seen a word) h1 refl (omega arith))
     (via (takes p1 p2 kind.Name t (State.new_seen a word) _ h2 refl (omega arith)) (via (here p2 p3 _ n.2) (via (here p3 p4 _ m.1)
-    (takes p4 p5 kind.OpenParen opening _ _ (o.0, o.1, o.2) refl (omega (arith, o.3)))))))
+    (takes p4 p5 kind.OpenParen opening _ _ o.0 refl (omega (arith, o.1)))))))
     (misses p5 new kind.CloseParen e _ miss (only-expects p5 _ _ kind.CloseParen _))
 
 pub object-no-end : (old p1 p2 p3 p4 p5 p6 new : Parser) (depth : ℕ) (word t opening closing : Token) (i : Ident) (e : ParseError) → depth ≤ deepest → TakesToken kind.New old p1 (Ok word) → TakesToken kind.Name p1 p2 (Ok t) → NamesToken t p2 p3 (Ok i) → MentionsClass i p3 p4 (Ok tt) →
@@ -57,7 +57,7 @@ pub object-no-end : (old p1 p2 p3 p4 p5 p6 new : Parser) (depth : ℕ) (word t o
 object-no-end old p1 p2 p3 p4 p5 p6 new depth word t opening closing i e le h1 h2 n m o h6 miss = λ a lv.
     refused (via (takes old p1 kind.New word (State.value_due a) (State.new_seen a word) h1 refl (omega arith))
     (via (takes p1 p2 kind.Name t (State.new_seen a word) _ h2 refl (omega arith)) (via (here p2 p3 _ n.2) (via (here p3 p4 _ m.1)
-    (via (takes p4 p5 kind.OpenParen opening _ _ (o.0, o.1, o.2) refl (omega (arith, o.3)))
+    (via (takes p4 p5 kind.OpenParen opening _ _ o.0 refl (omega (arith, o.1)))
     (takes p5 p6 kind.CloseParen closing _ _ h6 refl (omega arith)))))))
     (misses p6 new kind.Semicolon e _ miss (only-expects p6 _ _ kind.Semicolon _))
 
@@ -68,12 +68,12 @@ object-ok old p1 p2 p3 p4 p5 p6 new depth word t opening closing end i le h1 h2 
     record {
       tree = RhsTree.new_object word t opening closing;
       is = ap (λ (x : Ident). right.New x) same;
-      program = h7.2.program ∙ h6.2.program ∙ o.2.program ∙ m.0 ∙ rw (n.0, n.1, h2.2.text, h1.2.text, h2.2.program, h1.2.program) refl;
+      program = h7.2.program ∙ h6.2.program ∙ o.0.2.program ∙ m.0 ∙ rw (n.0, n.1, h2.2.text, h1.2.text, h2.2.program, h1.2.program) refl;
       head = refl;
       leads = λ a lv.
           via (takes old p1 kind.New word (State.value_due a) (State.new_seen a word) h1 refl (omega arith))
           (via (takes p1 p2 kind.Name t (State.new_seen a word) _ h2 refl (omega arith)) (via (here p2 p3 _ n.2) (via (here p3 p4 _ m.1)
-          (via (takes p4 p5 kind.OpenParen opening _ _ (o.0, o.1, o.2) refl (omega (arith, o.3)))
+          (via (takes p4 p5 kind.OpenParen opening _ _ o.0 refl (omega (arith, o.1)))
           (via (takes p5 p6 kind.CloseParen closing _ _ h6 refl (omega arith))
           (takes p6 new kind.Semicolon end _ (after_value a (RhsTree.new_object word t opening closing) end) h7 refl (omega (arith, after_value-level a (RhsTree.new_object word t opening closing) end))))))));
     }
@@ -89,7 +89,7 @@ array-opens : (old p1 p2 p3 : Parser) (depth : ℕ) (word long opening : Token) 
     Leads old (State.value_due a) p3 (State.operand [] (Purpose.to_length a word long opening))
 array-opens old p1 p2 p3 depth word long opening a le lv h1 h2 o =
     via (takes old p1 kind.New word (State.value_due a) (State.new_seen a word) h1 refl (omega arith))
-    (via (takes p1 p2 kind.Long long (State.new_seen a word) _ h2 refl (omega arith)) (takes p2 p3 kind.OpenBracket opening _ _ (o.0, o.1, o.2) refl (omega (arith, o.3))))
+    (via (takes p1 p2 kind.Long long (State.new_seen a word) _ h2 refl (omega arith)) (takes p2 p3 kind.OpenBracket opening _ _ o.0 refl (omega (arith, o.1))))
 
 pub array-count : (old p1 p2 p3 new : Parser) (depth : ℕ) (word long opening : Token) (e : ParseError) → depth ≤ deepest → TakesToken kind.New old p1 (Ok word) → TakesToken kind.Long p1 p2 (Ok long) → OpensLevel kind.OpenBracket depth p2 p3 (Ok opening) →
     ReadsExpr 6 (depth + 1) p3 new (Err e) → ReadsValue depth old new (Err e)
@@ -118,8 +118,8 @@ pub array-ok : (old p1 p2 p3 p4 p5 new : Parser) (depth x : ℕ) (word long open
     ReadsExpr 6 (depth + 1) p3 p4 (Ok x) → TakesToken kind.CloseBracket p4 p5 (Ok closing) → TakesToken kind.Semicolon p5 new (Ok end) → ValueRead depth old new (record { rhs = right.NewArray x; head = end; end = end })
 array-ok old p1 p2 p3 p4 p5 new depth x word long opening closing end le h1 h2 o g h5 h6 = record {
   tree = RhsTree.new_array word long opening g.tree closing;
-  is = rw (g.place, o.2.text, h2.2.text, h1.2.text, o.2.program, h2.2.program, h1.2.program) refl;
-  program = h6.2.program ∙ h5.2.program ∙ g.program ∙ rw (o.2.text, h2.2.text, h1.2.text, o.2.program, h2.2.program, h1.2.program) refl;
+  is = rw (g.place, o.0.2.text, h2.2.text, h1.2.text, o.0.2.program, h2.2.program, h1.2.program) refl;
+  program = h6.2.program ∙ h5.2.program ∙ g.program ∙ rw (o.0.2.text, h2.2.text, h1.2.text, o.0.2.program, h2.2.program, h1.2.program) refl;
   head = refl;
   leads = λ a lv.
       let k = Purpose.to_length a word long opening in

@@ -80,7 +80,7 @@ prefixed-refused old new depth o e next h = λ ps k lv room.
 
 prefixed-opens : (old mid : Parser) (depth : ℕ) (o : UnaryOp) (t : Token) (ps : List Pending) (k : Purpose) → OpensLevel (unary_sign o) depth old mid (Ok t) → level_pending (level_purpose k) ps ≡ depth →
     Leads old (State.operand ps k) mid (State.operand (Pending.before o t ∷ ps) k)
-prefixed-opens old mid depth o t ps k h lv = stepped old mid t (State.operand ps k) (State.operand (Pending.before o t ∷ ps) k) h.0 h.2 (ap (λ (x : TokenKind). step_as (State.operand ps k) t x) h.1 ∙ prefixed-step o t ps k) (omega (arith, h.3))
+prefixed-opens old mid depth o t ps k h lv = takes old mid (unary_sign o) t (State.operand ps k) (State.operand (Pending.before o t ∷ ps) k) h.0 (prefixed-step o t ps k) (omega (arith, h.1))
 
 pub prefixed-err : (old mid new : Parser) (depth : ℕ) (o : UnaryOp) (t : Token) (e : ParseError) → OpensLevel (unary_sign o) depth old mid (Ok t) → ReadsExpr 0 (depth + 1) mid new (Err e) → ReadsExpr 0 depth old new (Err e)
 prefixed-err old mid new depth o t e h r = λ ps k lv room. refused (prefixed-opens old mid depth o t ps k h lv) (r (Pending.before o t ∷ ps) k (omega arith) refl)
@@ -100,8 +100,8 @@ settle-unary p e o t ps k = record { same = over (rest p) p.at }
 pub prefixed-ok : (old mid mid2 new : Parser) (depth : ℕ) (o : UnaryOp) (t : Token) (x : ℕ) (r : Result ℕ ParseError) → OpensLevel (unary_sign o) depth old mid (Ok t) → ReadsExpr 0 (depth + 1) mid mid2 (Ok x) → PushesExpr (node.Unary o x) mid2 new r → ReadsExpr 0 depth old new r
 prefixed-ok old mid mid2 new depth o t x (Ok n) h g d = record {
   tree = ExprTree.unary o t g.tree;
-  place = d.0 ∙ rw (g.program, h.2.program, h.2.text) refl;
-  program = d.1 ∙ rw (g.place, g.program, h.2.program, h.2.text) refl;
+  place = d.0 ∙ rw (g.program, h.0.2.program, h.0.2.text) refl;
+  program = d.1 ∙ rw (g.place, g.program, h.0.2.program, h.0.2.text) refl;
   leads = λ ps k lv room.
       via (prefixed-opens old mid depth o t ps k h lv)
       (via (g.leads (Pending.before o t ∷ ps) k (omega arith) refl) (via (settle-unary mid2 g.tree o t ps k) (here mid2 new (State.after (ExprTree.unary o t g.tree) ps k) d.2)));
@@ -115,7 +115,7 @@ parens-refused old new depth e next h = λ ps k lv room.
     not-opened old new kind.OpenParen depth (State.operand ps k) e next h (λ t deep. (State.operand [] (Purpose.inner ps k t), (refl, omega arith)))
 
 parens-opens : (old mid : Parser) (depth : ℕ) (t : Token) (ps : List Pending) (k : Purpose) → OpensLevel kind.OpenParen depth old mid (Ok t) → level_pending (level_purpose k) ps ≡ depth → Leads old (State.operand ps k) mid (State.operand [] (Purpose.inner ps k t))
-parens-opens old mid depth t ps k h lv = stepped old mid t (State.operand ps k) (State.operand [] (Purpose.inner ps k t)) h.0 h.2 (ap (λ (x : TokenKind). step_as (State.operand ps k) t x) h.1) (omega (arith, h.3))
+parens-opens old mid depth t ps k h lv = takes old mid kind.OpenParen t (State.operand ps k) (State.operand [] (Purpose.inner ps k t)) h.0 refl (omega (arith, h.1))
 
 pub parens-err : (old mid new : Parser) (depth : ℕ) (t : Token) (e : ParseError) → OpensLevel kind.OpenParen depth old mid (Ok t) → ReadsExpr 6 (depth + 1) mid new (Err e) → ReadsExpr 0 depth old new (Err e)
 parens-err old mid new depth t e h r = λ ps k lv room. refused (parens-opens old mid depth t ps k h lv) (r [] (Purpose.inner ps k t) (omega arith) tt)
@@ -144,12 +144,12 @@ parens-missing old mid mid2 new depth t x e h g closed miss = λ ps k lv room.
 pub parens-ok : (old mid mid2 new : Parser) (depth : ℕ) (t c : Token) (x : ℕ) → OpensLevel kind.OpenParen depth old mid (Ok t) → ReadsExpr 6 (depth + 1) mid mid2 (Ok x) → TakesToken kind.CloseParen mid2 new (Ok c) → ReadsExpr 0 depth old new (Ok x)
 parens-ok old mid mid2 new depth t c x h g close = record {
   tree = ExprTree.parens t g.tree c;
-  place = g.place ∙ rw (h.2.program, h.2.text) refl;
-  program = close.2.program ∙ g.program ∙ rw (h.2.program, h.2.text) refl;
+  place = g.place ∙ rw (h.0.2.program, h.0.2.text) refl;
+  program = close.2.program ∙ g.program ∙ rw (h.0.2.program, h.0.2.text) refl;
   leads = λ ps k lv room.
       via (parens-opens old mid depth t ps k h lv)
       (via (g.leads [] (Purpose.inner ps k t) (omega arith) tt)
-      (takes mid2 new kind.CloseParen c (State.after g.tree [] (Purpose.inner ps k t)) (State.after (ExprTree.parens t g.tree c) ps k) close refl (omega (arith, level-below (level_purpose k) ps, h.3))));
+      (takes mid2 new kind.CloseParen c (State.after g.tree [] (Purpose.inner ps k t)) (State.after (ExprTree.parens t g.tree c) ps k) close refl (omega (arith, level-below (level_purpose k) ps, h.1))));
 }
 
 -- ---- no operand

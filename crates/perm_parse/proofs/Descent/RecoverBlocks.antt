@@ -111,8 +111,8 @@ recover-ok old p1 p2 p3 p4 p5 p6 p7 p8 new depth word opening give name end clos
     let q : p5.program ≡ p3.program = g.name_next.2.program ∙ g.give_next.2.program in
     record {
       tree = RhsTree.recover word opening path.stmts.tree give name end closing;
-      is = rw (is, g.named.0, path.stmts.is, t, q, path.stmts.program, path.opened.2.text, path.word_next.2.text, path.opened.2.program, path.word_next.2.program) refl;
-      program = h.2.program ∙ g.closed.2.program ∙ g.ended.2.program ∙ g.named.1 ∙ rw (t, q, path.stmts.program, path.opened.2.text, path.word_next.2.text, path.opened.2.program, path.word_next.2.program) refl;
+      is = rw (is, g.named.0, path.stmts.is, t, q, path.stmts.program, path.opened.0.2.text, path.word_next.2.text, path.opened.0.2.program, path.word_next.2.program) refl;
+      program = h.2.program ∙ g.closed.2.program ∙ g.ended.2.program ∙ g.named.1 ∙ rw (t, q, path.stmts.program, path.opened.0.2.text, path.word_next.2.text, path.opened.0.2.program, path.word_next.2.program) refl;
       head = refl;
       leads = λ a lv. recover-leads old p1 p2 p3 p4 p5 p6 p7 p8 new depth word opening give name end closing last list i le path g h a lv;
     }

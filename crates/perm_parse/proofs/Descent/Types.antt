@@ -83,7 +83,7 @@ object-ok old mid named new depth p t i le h n m = record {
 pub opened-or : (old new : Parser) (wanted : TokenKind) (depth : ℕ) (so_far : List Token → List Token) (d : ℕ) (next : Token → State) (e : ParseError) →
     ((t : Token) → level_state (next t) ≡ depth + 1) → ((t : Token) → step_as (State.expects so_far d (Wanted.exactly wanted) next) t wanted ≡ Some (next t)) → OpensLevel wanted depth old new (Err e) →
     Refuses old (State.expects so_far d (Wanted.exactly wanted) next) e
-opened-or old new wanted depth so_far d next (Unexpected i) lv goes h = rw h.0 (misses old new wanted (Unexpected old.at) (State.expects so_far d (Wanted.exactly wanted) next) (refl, h.1) (only-expects old so_far d wanted next))
+opened-or old new wanted depth so_far d next (Unexpected i) lv goes h = misses old new wanted (Unexpected i) (State.expects so_far d (Wanted.exactly wanted) next) h (only-expects old so_far d wanted next)
 opened-or old new wanted depth so_far d next (TooDeep i) lv goes h =
     let t = h.1.0 in
     rw h.0 (too-deep old t (State.expects so_far d (Wanted.exactly wanted) next) (next t) h.1.1.0 (ap (λ (x : TokenKind). step_as (State.expects so_far d (Wanted.exactly wanted) next) t x) h.1.1.1 ∙ goes t) (omega (arith, lv t, h.2)))
@@ -104,7 +104,7 @@ array-not-opened old mid new depth p long e le h o = λ k word lv.
 array-opens : (old mid mid2 : Parser) (depth : ℕ) (p : Perm) (long opening : Token) (k : TypeFor) (word : Token) → depth ≤ deepest → level_type_for k ≡ depth → TakesToken kind.Long old mid (Ok long) → OpensLevel kind.OpenBracket depth mid mid2 (Ok opening) →
     Leads old (State.perm_seen k p word) mid2 (State.expects (λ rest. type_for_text k (word ∷ long ∷ opening ∷ rest)) (level_type_for k + 1) (Wanted.exactly kind.CloseBracket) (λ closing. after_type k (TypeTree.array_type p word long opening closing)))
 array-opens old mid mid2 depth p long opening k word le lv h o =
-    via (array-word old mid depth p long k word le lv h) (takes mid mid2 kind.OpenBracket opening _ _ (o.0, o.1, o.2) refl (omega (arith, o.3)))
+    via (array-word old mid depth p long k word le lv h) (takes mid mid2 kind.OpenBracket opening _ _ o.0 refl (omega (arith, o.1)))
 
 pub array-not-closed : (old mid mid2 new : Parser) (depth : ℕ) (p : Perm) (long opening : Token) (e : ParseError) → depth ≤ deepest → TakesToken kind.Long old mid (Ok long) → OpensLevel kind.OpenBracket depth mid mid2 (Ok opening) → TakesToken kind.CloseBracket mid2 new (Err e) →
     ReadsShape depth p old new (Err e)
@@ -117,7 +117,7 @@ array-ok old mid mid2 new depth p long opening closing le h o g = record {
   tree = λ word. TypeTree.array_type p word long opening closing;
   first = λ word. refl;
   is = λ word. refl;
-  program = λ word. g.2.program ∙ o.2.program ∙ h.2.program;
+  program = λ word. g.2.program ∙ o.0.2.program ∙ h.2.program;
   leads = λ k word lv.
       via (array-opens old mid mid2 depth p long opening k word le lv h o)
       (takes mid2 new kind.CloseBracket closing _ (after_type k (TypeTree.array_type p word long opening closing)) g refl (omega arith));

@@ -106,7 +106,7 @@ item-not-opened old p1 p2 new depth t i e le next h1 v o = λ a lv.
 
 opens : (old p1 p2 p3 : Parser) (depth : ℕ) (t opening : Token) (i : Ident) (a : Assigning) → depth ≤ deepest → level_assigning a ≡ depth → TakesVar old p1 (Ok t) → NamesVar t p1 p2 (Ok i) → OpensLevel kind.OpenBracket depth p2 p3 (Ok opening) →
     Leads old (State.value_due a) p3 (State.operand [] (Purpose.to_read a t opening))
-opens old p1 p2 p3 depth t opening i a le lv h1 v o = via (named old p1 p2 depth t i a le lv h1 v) (takes p2 p3 kind.OpenBracket opening (State.value_named a t) _ (o.0, o.1, o.2) refl (omega (arith, o.3)))
+opens old p1 p2 p3 depth t opening i a le lv h1 v o = via (named old p1 p2 depth t i a le lv h1 v) (takes p2 p3 kind.OpenBracket opening (State.value_named a t) _ o.0 refl (omega (arith, o.1)))
 
 pub item-index : (old p1 p2 p3 new : Parser) (depth : ℕ) (t opening : Token) (i : Ident) (e : ParseError) → depth ≤ deepest → TakesVar old p1 (Ok t) → NamesVar t p1 p2 (Ok i) → OpensLevel kind.OpenBracket depth p2 p3 (Ok opening) → ReadsExpr 6 (depth + 1) p3 new (Err e) →
     ReadsValue depth old new (Err e)
@@ -134,8 +134,8 @@ pub item-ok : (old p1 p2 p3 p4 p5 new : Parser) (depth x : ℕ) (t opening closi
     TakesToken kind.CloseBracket p4 p5 (Ok closing) → TakesToken kind.Semicolon p5 new (Ok end) → ValueRead depth old new (record { rhs = right.Item i x; head = end; end = end })
 item-ok old p1 p2 p3 p4 p5 new depth x t opening closing end i le h1 v o g h5 h6 = record {
   tree = RhsTree.item t opening g.tree closing;
-  is = rw (v.0, g.place, o.2.text, v.2.text, h1.2.text, o.2.program, v.1, h1.2.text, h1.2.program) refl;
-  program = h6.2.program ∙ h5.2.program ∙ g.program ∙ rw (o.2.text, v.2.text, h1.2.text, o.2.program, v.1, h1.2.text, h1.2.program) refl;
+  is = rw (v.0, g.place, o.0.2.text, v.2.text, h1.2.text, o.0.2.program, v.1, h1.2.text, h1.2.program) refl;
+  program = h6.2.program ∙ h5.2.program ∙ g.program ∙ rw (o.0.2.text, v.2.text, h1.2.text, o.0.2.program, v.1, h1.2.text, h1.2.program) refl;
   head = refl;
   leads = λ a lv.
       let k = Purpose.to_read a t opening in

@@ -126,7 +126,7 @@ recover_value-returns-in_err-token-clause-reads m c =
     let r = c.from_residual-in_err-token in
     let p = err_from_is_err_and r.result r.ensures.1 in
     let path : RecoverPath c.args.depth c.args.self.now c.expect.new.self c.open.new.self c.stmts.new.self c.in_ok-word.word c.in_ok-_opening._opening c.in_ok-stmts.stmts = record { word_next = c.in_ok-word.ensures.expected; opened = c.in_ok-_opening.ensures.opened; stmts = c.in_ok-stmts.ensures.reads } in
-    rw (p.1, p.2) (recover-no-name c.args.self.now c.expect.new.self c.open.new.self c.stmts.new.self c.expect-2.new.self c.expect-3.new.self c.args.depth c.in_ok-word.word c.in_ok-_opening._opening c.in_ok-give.give c.in_ok-stmts.stmts c.in_err-token.field-0.0 c.in_ok-_opening.ensures.opened.3 path
+    rw (p.1, p.2) (recover-no-name c.args.self.now c.expect.new.self c.open.new.self c.stmts.new.self c.expect-2.new.self c.expect-3.new.self c.args.depth c.in_ok-word.word c.in_ok-_opening._opening c.in_ok-give.give c.in_ok-stmts.stmts c.in_err-token.field-0.0 c.in_ok-_opening.ensures.opened.1 path
     c.in_ok-give.ensures.expected c.in_err-token.ensures.expected)
 
 pub recover_value-returns-in_err-semicolon-clause-reads : goal.recover_value-returns-in_err-semicolon-clause-reads
@@ -135,7 +135,7 @@ recover_value-returns-in_err-semicolon-clause-reads m c =
     let p = err_from_is_err_and r.result r.ensures.1 in
     let path : RecoverPath c.args.depth c.args.self.now c.expect.new.self c.open.new.self c.stmts.new.self c.in_ok-word.word c.in_ok-_opening._opening c.in_ok-stmts.stmts = record { word_next = c.in_ok-word.ensures.expected; opened = c.in_ok-_opening.ensures.opened; stmts = c.in_ok-stmts.ensures.reads } in
     rw (p.1, p.2) (recover-no-end c.args.self.now c.expect.new.self c.open.new.self c.stmts.new.self c.expect-2.new.self c.expect-3.new.self c.ident.new.self c.expect-4.new.self c.args.depth c.in_ok-word.word c.in_ok-_opening._opening c.in_ok-give.give c.in_ok-token.token c.in_ok-stmts.stmts
-    c.in_ok-given.given c.in_err-semicolon.field-0.0 c.in_ok-_opening.ensures.opened.3 path c.in_ok-give.ensures.expected c.in_ok-token.ensures.expected c.in_ok-given.ensures.named c.in_err-semicolon.ensures.expected)
+    c.in_ok-given.given c.in_err-semicolon.field-0.0 c.in_ok-_opening.ensures.opened.1 path c.in_ok-give.ensures.expected c.in_ok-token.ensures.expected c.in_ok-given.ensures.named c.in_err-semicolon.ensures.expected)
 
 pub recover_value-returns-in_err-_closing-clause-reads : goal.recover_value-returns-in_err-_closing-clause-reads
 recover_value-returns-in_err-_closing-clause-reads m c =
@@ -143,7 +143,7 @@ recover_value-returns-in_err-_closing-clause-reads m c =
     let p = err_from_is_err_and r.result r.ensures.1 in
     let path : RecoverPath c.args.depth c.args.self.now c.expect.new.self c.open.new.self c.stmts.new.self c.in_ok-word.word c.in_ok-_opening._opening c.in_ok-stmts.stmts = record { word_next = c.in_ok-word.ensures.expected; opened = c.in_ok-_opening.ensures.opened; stmts = c.in_ok-stmts.ensures.reads } in
     rw (p.1, p.2) (recover-not-closed c.args.self.now c.expect.new.self c.open.new.self c.stmts.new.self c.expect-2.new.self c.expect-3.new.self c.ident.new.self c.expect-4.new.self c.expect-5.new.self c.args.depth c.in_ok-word.word c.in_ok-_opening._opening c.in_ok-give.give c.in_ok-token.token
-    c.in_ok-semicolon.semicolon c.in_ok-stmts.stmts c.in_ok-given.given c.in_err-_closing.field-0.0 c.in_ok-_opening.ensures.opened.3 path c.in_ok-give.ensures.expected c.in_ok-token.ensures.expected c.in_ok-given.ensures.named c.in_ok-semicolon.ensures.expected c.in_err-_closing.ensures.expected)
+    c.in_ok-semicolon.semicolon c.in_ok-stmts.stmts c.in_ok-given.given c.in_err-_closing.field-0.0 c.in_ok-_opening.ensures.opened.1 path c.in_ok-give.ensures.expected c.in_ok-token.ensures.expected c.in_ok-given.ensures.named c.in_ok-semicolon.ensures.expected c.in_err-_closing.ensures.expected)
 
 pub recover_value-returns-in_err-end-clause-reads : goal.recover_value-returns-in_err-end-clause-reads
 recover_value-returns-in_err-end-clause-reads m c =
@@ -152,14 +152,14 @@ recover_value-returns-in_err-end-clause-reads m c =
     let path : RecoverPath c.args.depth c.args.self.now c.expect.new.self c.open.new.self c.stmts.new.self c.in_ok-word.word c.in_ok-_opening._opening c.in_ok-stmts.stmts = record { word_next = c.in_ok-word.ensures.expected; opened = c.in_ok-_opening.ensures.opened; stmts = c.in_ok-stmts.ensures.reads } in
     let give : GivePath c.stmts.new.self c.expect-2.new.self c.expect-3.new.self c.ident.new.self c.expect-4.new.self c.expect-5.new.self c.in_ok-give.give c.in_ok-token.token c.in_ok-semicolon.semicolon c.in_ok-_closing._closing c.in_ok-given.given = record { give_next = c.in_ok-give.ensures.expected; name_next = c.in_ok-token.ensures.expected; named = c.in_ok-given.ensures.named; ended = c.in_ok-semicolon.ensures.expected; closed = c.in_ok-_closing.ensures.expected } in
     rw (p.1, p.2) (recover-no-last c.args.self.now c.expect.new.self c.open.new.self c.stmts.new.self c.expect-2.new.self c.expect-3.new.self c.ident.new.self c.expect-4.new.self c.expect-5.new.self c.expect-6.new.self c.args.depth c.in_ok-word.word c.in_ok-_opening._opening c.in_ok-give.give c.in_ok-token.token
-    c.in_ok-semicolon.semicolon c.in_ok-_closing._closing c.in_ok-stmts.stmts c.in_ok-given.given c.in_err-end.field-0.0 c.in_ok-_opening.ensures.opened.3 path give c.in_err-end.ensures.expected)
+    c.in_ok-semicolon.semicolon c.in_ok-_closing._closing c.in_ok-stmts.stmts c.in_ok-given.given c.in_err-end.field-0.0 c.in_ok-_opening.ensures.opened.1 path give c.in_err-end.ensures.expected)
 
 pub recover_value-returns-clause-reads : goal.recover_value-returns-clause-reads
 recover_value-returns-clause-reads m c =
     let path : RecoverPath c.args.depth c.args.self.now c.expect.new.self c.open.new.self c.stmts.new.self c.in_ok-word.word c.in_ok-_opening._opening c.in_ok-stmts.stmts = record { word_next = c.in_ok-word.ensures.expected; opened = c.in_ok-_opening.ensures.opened; stmts = c.in_ok-stmts.ensures.reads } in
     let give : GivePath c.stmts.new.self c.expect-2.new.self c.expect-3.new.self c.ident.new.self c.expect-4.new.self c.expect-5.new.self c.in_ok-give.give c.in_ok-token.token c.in_ok-semicolon.semicolon c.in_ok-_closing._closing c.in_ok-given.given = record { give_next = c.in_ok-give.ensures.expected; name_next = c.in_ok-token.ensures.expected; named = c.in_ok-given.ensures.named; ended = c.in_ok-semicolon.ensures.expected; closed = c.in_ok-_closing.ensures.expected } in
     recover-ok c.args.self.now c.expect.new.self c.open.new.self c.stmts.new.self c.expect-2.new.self c.expect-3.new.self c.ident.new.self c.expect-4.new.self c.expect-5.new.self c.expect-6.new.self c.args.depth c.in_ok-word.word c.in_ok-_opening._opening c.in_ok-give.give c.in_ok-token.token
-    c.in_ok-semicolon.semicolon c.in_ok-_closing._closing c.in_ok-end.end c.in_ok-stmts.stmts c.in_ok-given.given _ c.in_ok-_opening.ensures.opened.3 (c.in_ok-stmts.ensures.onward.text ∙ c.in_ok-_opening.ensures.onward.text ∙ c.in_ok-word.ensures.onward.text) path give c.in_ok-end.ensures.expected c.span_over.ensures
+    c.in_ok-semicolon.semicolon c.in_ok-_closing._closing c.in_ok-end.end c.in_ok-stmts.stmts c.in_ok-given.given _ c.in_ok-_opening.ensures.opened.1 (c.in_ok-stmts.ensures.onward.text ∙ c.in_ok-_opening.ensures.onward.text ∙ c.in_ok-word.ensures.onward.text) path give c.in_ok-end.ensures.expected c.span_over.ensures
 
 -- ---- block
 

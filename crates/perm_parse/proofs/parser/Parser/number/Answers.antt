@@ -5,8 +5,6 @@ use Rattle.perm_parse.proofs.parser.Parser.number.Goals as goal
 pub invariant_of-self-2-clause-indexed : goal.invariant_of-self-2-clause-indexed
 invariant_of-self-2-clause-indexed c =
     let self = c.args.self.now in
-    let room = ok-has c.reserve.result (sym c.in_ok-map_err.ensures.variant) c.reserve.ensures.ok in
-    let pushed = ok-has c.push_name.result (sym c.in_ok-number.ensures.variant) c.push_name.ensures.ok in
-    let inserted = ok-has c.insert.result (c.insert.ensures.succeeds room.1) c.insert.ensures.keys in
+    let inserted = ok-has c.insert.result (c.insert.ensures.succeeds c.in_ok-reserve.ensures.ok) c.insert.ensures.keys in
     new-name _ self.names.keys c.reserve.new.self.keys c.insert.new.self.keys self.program.names self.indexed (sym c.known.ensures ∙ c.in_default.is) c.reserve.ensures.keys inserted.1
     ∙ search rules
