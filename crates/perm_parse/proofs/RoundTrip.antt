@@ -64,7 +64,7 @@ program-written text (Classes.more_classes list word name opening members closin
     let A = map (λ (q : Member). q.text) (entries text p members x.1) in
     let last = mark kinds.CloseBrace ∷ line ∷ ps in
     let inner = members_pieces text (bare_members members) last in
-    let kept : m.2.classes ≡ r.classes = members-kept SameClasses same-classes text members x.1 ∙ ident-kept SameClasses same-classes text name r in
+    let kept : m.2.classes ≡ r.classes = members-kept SameClasses same-classes (λ x s. refl) text members x.1 ∙ ident-kept SameClasses same-classes text name r in
     let tail = (program-trails list (word ∷ name ∷ opening ∷ members_text members (closing ∷ us))).ascending asc in
     let order = members-sorted text p members x.1 (closing ∷ us) tail.1.1.1 in
     program-written text list p (word ∷ name ∷ opening ∷ members_text members (closing ∷ us)) (mark kinds.Class ∷ space ∷ name_piece text name ∷ space ∷ mark kinds.OpenBrace ∷ line ∷ inner) this is.list asc (then (ident-grows text name r) gx)

@@ -13,19 +13,18 @@ use Rattle.perm_tree.specs.declared.tokens.Token.{Token}
 use Rattle.perm_tree.specs.declared.tokens.TokenKind.{TokenKind}
 use Rattle.perm_tree.specs.declared.tokens.TokenKind.TheVariants as kinds
 use Rattle.perm_parse.specs.Grammar.{TypeTree, ExprTree, ArgTree, ArgList, Args, RecvTree, CallTree, TargetTree, RhsTree, BlockTree, StmtTree, Stmts, ParamList, Params, MemberTree, Members, Classes}
-use Rattle.perm_parse.specs.Meaning.{number_of, ident, var_as, var, push_expr, push_stmt, push_mention, type_of, expr_of, arg_of, arg_list_of, args_of, recv_of, call_of, target_of, rhs_of, block_of, stmt_of, stmts_of, param_list_of, params_of, member_of, members_of, classes_of}
+use Rattle.perm_parse.specs.Meaning.{number_of, ident, var_as, var, push_expr, push_stmt, push_mention, type_of, expr_of, arg_of, arg_list_of, args_of, recv_of, call_of, target_of, rhs_of, block_of, stmt_of, stmts_of, param_list_of, params_of, method_of, member_of, members_of, classes_of}
 
 -- A relation of a program to a later one that holds over no move, over two moves where it holds over each, and over a name that
--- is given its number, an expression, a statement or a mention more.
+-- is given its number, an expression or a mention more.
 pub record IsKept (R : Listing → Listing → Type 0) : Type 0 where
   pub stays : (s : Listing) → R s s
   pub then : {s t u : Listing} → R s t → R t u → R s u
   pub name : (text : List ℕ) (t : Token) (s : Listing) → R s (number_of text t s).1
   pub expr : (e : Expr) (s : Listing) → R s (push_expr e s).1
-  pub stmt : (x : Stmt) (s : Listing) → R s (push_stmt x s).1
   pub mention : (i : Ident) (s : Listing) → R s (push_mention i s)
 
--- it holds over the walk of each kind of tree
+-- it holds over the walk of each kind of tree that holds no statement
 module _ (R : Listing → Listing → Type 0) (kept : IsKept R) where
   pub ident-kept : (text : List ℕ) (t : Token) (s : Listing) → R s (ident text t s).1
   ident-kept text t s = kept.name text t s
@@ -76,36 +75,6 @@ module _ (R : Listing → Listing → Type 0) (kept : IsKept R) where
   target-kept text (TargetTree.known name) s = ident-kept text name s
   target-kept text (TargetTree.declared ty name) s = kept.then (type-kept text ty s) (ident-kept text name _)
 
-  mutual
-    pub rhs-kept : (text : List ℕ) (a : RhsTree) (s : Listing) → R s (rhs_of text a s).1
-    rhs-kept text (RhsTree.value a) s = arg-kept text a s
-    rhs-kept text (RhsTree.field name dot member) s = kept.then (var-kept text name s) (ident-kept text member _)
-    rhs-kept text (RhsTree.take_field word name dot member) s = kept.then (var-kept text name s) (ident-kept text member _)
-    rhs-kept text (RhsTree.item name opening e closing) s = kept.then (var-kept text name s) (expr-kept text e _)
-    rhs-kept text (RhsTree.new_object word name opening closing) s = kept.then (ident-kept text name s) (kept.mention _ _)
-    rhs-kept text (RhsTree.new_array word long opening e closing) s = expr-kept text e s
-    rhs-kept text (RhsTree.called c) s = call-kept text c s
-    rhs-kept text (RhsTree.recover word opening b give name end closing) s = kept.then (stmts-kept text b s) (ident-kept text name _)
-
-    pub block-kept : (text : List ℕ) (a : BlockTree) (s : Listing) → R s (block_of text a s).1
-    block-kept text (BlockTree.block opening b closing) s = stmts-kept text b s
-
-    pub stmt-kept : (text : List ℕ) (a : StmtTree) (s : Listing) → R s (stmt_of text a s).1
-    stmt-kept text (StmtTree.declare ty name end) s = kept.then (type-kept text ty s) (ident-kept text name _)
-    stmt-kept text (StmtTree.assign target equals r end) s = kept.then (target-kept text target s) (rhs-kept text r _)
-    stmt-kept text (StmtTree.set_field name dot member equals a end) s = kept.then (var-kept text name s) (kept.then (ident-kept text member _) (arg-kept text a _))
-    stmt-kept text (StmtTree.set_item name opening i closing equals e end) s = kept.then (var-kept text name s) (kept.then (expr-kept text i _) (expr-kept text e _))
-    stmt-kept text (StmtTree.run_call c end) s = call-kept text c s
-    stmt-kept text (StmtTree.print word e end) s = expr-kept text e s
-    stmt-kept text (StmtTree.if_then word opening e closing a) s = kept.then (expr-kept text e s) (block-kept text a _)
-    stmt-kept text (StmtTree.if_else word opening e closing a otherwise b) s = kept.then (expr-kept text e s) (kept.then (block-kept text a _) (block-kept text b _))
-    stmt-kept text (StmtTree.repeat word opening e closing a) s = kept.then (expr-kept text e s) (block-kept text a _)
-    stmt-kept text (StmtTree.par word a b) s = kept.then (block-kept text a s) (block-kept text b _)
-
-    pub stmts-kept : (text : List ℕ) (a : Stmts) (s : Listing) → R s (stmts_of text a s).1
-    stmts-kept text Stmts.no_stmts s = kept.stays s
-    stmts-kept text (Stmts.more_stmts b x) s = kept.then (stmts-kept text b s) (kept.then (stmt-kept text x _) (kept.stmt _ _))
-
   pub param_list-kept : (text : List ℕ) (a : ParamList) (s : Listing) → R s (param_list_of text a s).1
   param_list-kept text (ParamList.one_param ty name) s = kept.then (type-kept text ty s) (ident-kept text name _)
   param_list-kept text (ParamList.more_params list comma ty name) s = kept.then (param_list-kept text list s) (kept.then (type-kept text ty _) (ident-kept text name _))
@@ -114,17 +83,52 @@ module _ (R : Listing → Listing → Type 0) (kept : IsKept R) where
   params-kept text Params.no_params s = kept.stays s
   params-kept text (Params.params list) s = param_list-kept text list s
 
-  pub member-kept : (text : List ℕ) (a : MemberTree) (fs : List FieldDecl) (ms : List Method) (s : Listing) → R s (member_of text a fs ms s).2
-  member-kept text (MemberTree.field_member ty name end) fs ms s = kept.then (type-kept text ty s) (ident-kept text name _)
-  member-kept text (MemberTree.method ty name opening list closing p perm start b word a end finish) fs ms s =
-      kept.then (type-kept text ty s) (kept.then (ident-kept text name _) (kept.then (params-kept text list _) (kept.then (stmts-kept text b _) (arg-kept text a _))))
+  -- what stands of a method before its body
+  pub method-kept : (text : List ℕ) (ty : TypeTree) (name : Token) (list : Params) (s : Listing) → R s (method_of text ty name list s).program
+  method-kept text ty name list s = kept.then (type-kept text ty s) (kept.then (ident-kept text name _) (params-kept text list _))
 
-  pub members-kept : (text : List ℕ) (a : Members) (s : Listing) → R s (members_of text a s).2
-  members-kept text Members.no_members s = kept.stays s
-  members-kept text (Members.more_members list x) s = kept.then (members-kept text list s) (member-kept text x _ _ _)
+  -- and over that of each other kind, where it holds over a statement more
+  module _ (more_stmt : (x : Stmt) (s : Listing) → R s (push_stmt x s).1) where
+    mutual
+      pub rhs-kept : (text : List ℕ) (a : RhsTree) (s : Listing) → R s (rhs_of text a s).1
+      rhs-kept text (RhsTree.value a) s = arg-kept text a s
+      rhs-kept text (RhsTree.field name dot member) s = kept.then (var-kept text name s) (ident-kept text member _)
+      rhs-kept text (RhsTree.take_field word name dot member) s = kept.then (var-kept text name s) (ident-kept text member _)
+      rhs-kept text (RhsTree.item name opening e closing) s = kept.then (var-kept text name s) (expr-kept text e _)
+      rhs-kept text (RhsTree.new_object word name opening closing) s = kept.then (ident-kept text name s) (kept.mention _ _)
+      rhs-kept text (RhsTree.new_array word long opening e closing) s = expr-kept text e s
+      rhs-kept text (RhsTree.called c) s = call-kept text c s
+      rhs-kept text (RhsTree.recover word opening b give name end closing) s = kept.then (stmts-kept text b s) (ident-kept text name _)
 
-  -- and over that of a program, where it holds over a class more
-  pub classes-kept : (more : (c : ClassDecl) (s : Listing) → R s (record s { classes = s.classes ++ c ∷ [] })) (text : List ℕ) (a : Classes) (s : Listing) → R s (classes_of text a s)
-  classes-kept more text Classes.no_classes s = kept.stays s
-  classes-kept more text (Classes.more_classes list word name opening members closing) s =
-      kept.then (classes-kept more text list s) (kept.then (ident-kept text name _) (kept.then (members-kept text members _) (more _ _)))
+      pub block-kept : (text : List ℕ) (a : BlockTree) (s : Listing) → R s (block_of text a s).1
+      block-kept text (BlockTree.block opening b closing) s = stmts-kept text b s
+
+      pub stmt-kept : (text : List ℕ) (a : StmtTree) (s : Listing) → R s (stmt_of text a s).1
+      stmt-kept text (StmtTree.declare ty name end) s = kept.then (type-kept text ty s) (ident-kept text name _)
+      stmt-kept text (StmtTree.assign target equals r end) s = kept.then (target-kept text target s) (rhs-kept text r _)
+      stmt-kept text (StmtTree.set_field name dot member equals a end) s = kept.then (var-kept text name s) (kept.then (ident-kept text member _) (arg-kept text a _))
+      stmt-kept text (StmtTree.set_item name opening i closing equals e end) s = kept.then (var-kept text name s) (kept.then (expr-kept text i _) (expr-kept text e _))
+      stmt-kept text (StmtTree.run_call c end) s = call-kept text c s
+      stmt-kept text (StmtTree.print word e end) s = expr-kept text e s
+      stmt-kept text (StmtTree.if_then word opening e closing a) s = kept.then (expr-kept text e s) (block-kept text a _)
+      stmt-kept text (StmtTree.if_else word opening e closing a otherwise b) s = kept.then (expr-kept text e s) (kept.then (block-kept text a _) (block-kept text b _))
+      stmt-kept text (StmtTree.repeat word opening e closing a) s = kept.then (expr-kept text e s) (block-kept text a _)
+      stmt-kept text (StmtTree.par word a b) s = kept.then (block-kept text a s) (block-kept text b _)
+
+      pub stmts-kept : (text : List ℕ) (a : Stmts) (s : Listing) → R s (stmts_of text a s).1
+      stmts-kept text Stmts.no_stmts s = kept.stays s
+      stmts-kept text (Stmts.more_stmts b x) s = kept.then (stmts-kept text b s) (kept.then (stmt-kept text x _) (more_stmt _ _))
+
+    pub member-kept : (text : List ℕ) (a : MemberTree) (fs : List FieldDecl) (ms : List Method) (s : Listing) → R s (member_of text a fs ms s).2
+    member-kept text (MemberTree.field_member ty name end) fs ms s = kept.then (type-kept text ty s) (ident-kept text name _)
+    member-kept text (MemberTree.method ty name opening list closing p perm start b word a end finish) fs ms s = kept.then (method-kept text ty name list s) (kept.then (stmts-kept text b _) (arg-kept text a _))
+
+    pub members-kept : (text : List ℕ) (a : Members) (s : Listing) → R s (members_of text a s).2
+    members-kept text Members.no_members s = kept.stays s
+    members-kept text (Members.more_members list x) s = kept.then (members-kept text list s) (member-kept text x _ _ _)
+
+    -- and over that of a program, where it holds over a class more
+    pub classes-kept : (more : (c : ClassDecl) (s : Listing) → R s (record s { classes = s.classes ++ c ∷ [] })) (text : List ℕ) (a : Classes) (s : Listing) → R s (classes_of text a s)
+    classes-kept more text Classes.no_classes s = kept.stays s
+    classes-kept more text (Classes.more_classes list word name opening members closing) s =
+        kept.then (classes-kept more text list s) (kept.then (ident-kept text name _) (kept.then (members-kept text members _) (more _ _)))

@@ -60,7 +60,7 @@ class-grows : (c : ClassDecl) (s : Listing) → Grows s (record s { classes = s.
 class-grows c s = record { names = front-refl s.names; exprs = front-refl s.exprs; stmts = front-refl s.stmts }
 
 grows : IsKept Grows
-grows = record { stays = stays; then = then; name = λ text t s. number_at-grows _ s _; expr = push_expr-grows; stmt = push_stmt-grows; mention = mention-grows }
+grows = record { stays = stays; then = then; name = λ text t s. number_at-grows _ s _; expr = push_expr-grows; mention = mention-grows }
 
 -- ---- over each kind of tree
 
@@ -80,25 +80,25 @@ pub args-grows : (text : List ℕ) (a : Args) (s : Listing) → Grows s (args_of
 args-grows = args-kept Grows grows
 
 pub rhs-grows : (text : List ℕ) (a : RhsTree) (s : Listing) → Grows s (rhs_of text a s).1
-rhs-grows = rhs-kept Grows grows
+rhs-grows = rhs-kept Grows grows push_stmt-grows
 
 pub block-grows : (text : List ℕ) (a : BlockTree) (s : Listing) → Grows s (block_of text a s).1
-block-grows = block-kept Grows grows
+block-grows = block-kept Grows grows push_stmt-grows
 
 pub stmt-grows : (text : List ℕ) (a : StmtTree) (s : Listing) → Grows s (stmt_of text a s).1
-stmt-grows = stmt-kept Grows grows
+stmt-grows = stmt-kept Grows grows push_stmt-grows
 
 pub stmts-grows : (text : List ℕ) (a : Stmts) (s : Listing) → Grows s (stmts_of text a s).1
-stmts-grows = stmts-kept Grows grows
+stmts-grows = stmts-kept Grows grows push_stmt-grows
 
 pub params-grows : (text : List ℕ) (a : Params) (s : Listing) → Grows s (params_of text a s).1
 params-grows = params-kept Grows grows
 
 pub member-grows : (text : List ℕ) (a : MemberTree) (fs : List FieldDecl) (ms : List Method) (s : Listing) → Grows s (member_of text a fs ms s).2
-member-grows = member-kept Grows grows
+member-grows = member-kept Grows grows push_stmt-grows
 
 pub members-grows : (text : List ℕ) (a : Members) (s : Listing) → Grows s (members_of text a s).2
-members-grows = members-kept Grows grows
+members-grows = members-kept Grows grows push_stmt-grows
 
 pub classes-grows : (text : List ℕ) (a : Classes) (s : Listing) → Grows s (classes_of text a s)
-classes-grows = classes-kept Grows grows class-grows
+classes-grows = classes-kept Grows grows push_stmt-grows class-grows

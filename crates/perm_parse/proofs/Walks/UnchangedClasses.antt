@@ -15,7 +15,6 @@ same-classes = record {
   then = λ {s} {t} {u} f g. g ∙ f;
   name = λ text t s. number_at-same _ s _;
   expr = λ e s. refl;
-  stmt = λ x s. refl;
   mention = λ i s. refl;
 }
   where

@@ -62,7 +62,6 @@ among ns = record {
   then = λ {s} {t} {u} f g h. g (f h);
   name = λ text t s. number_at-among ns _ s _;
   expr = λ e s h. h;
-  stmt = λ x s h. h;
   mention = mention-among ns;
 }
 
@@ -95,7 +94,7 @@ stmt-among text (StmtTree.assign (TargetTree.declared ty name) equals r end) s =
     let y = ident text name x.1 in
     let ns = ty_classes x.0 in
     let t = (rhs_of text r y.1).1 in
-    decl-among t [] x.0 y.0 (none-among _) (rhs-kept (StayAmong ns) (among ns) text r y.1 (type-still-among text ty name s))
+    decl-among t [] x.0 y.0 (none-among _) (rhs-kept (StayAmong ns) (among ns) (λ x s h. h) text r y.1 (type-still-among text ty name s))
 stmt-among text (StmtTree.set_field name dot member equals a end) s = none-among _
 stmt-among text (StmtTree.set_item name opening i closing equals e end) s = none-among _
 stmt-among text (StmtTree.run_call c end) s = none-among _
@@ -135,8 +134,8 @@ member-among text (MemberTree.field_member ty name end) fs ms s h =
     let y = ident text name x.1 in
     let fields = decl_classes fs in
     let methods = flat_map method_classes ms in (
-      decl-among y.1 fs x.0 y.0 (member-kept (StayAmong fields) (among fields) text whole fs ms s h.0) (type-still-among text ty name s),
-      member-kept (StayAmong methods) (among methods) text whole fs ms s h.1,
+      decl-among y.1 fs x.0 y.0 (member-kept (StayAmong fields) (among fields) (λ x s h. h) text whole fs ms s h.0) (type-still-among text ty name s),
+      member-kept (StayAmong methods) (among methods) (λ x s h. h) text whole fs ms s h.1,
     )
 member-among text (MemberTree.method ty name opening list closing p perm start b word a end finish) fs ms s h =
     let whole = MemberTree.method ty name opening list closing p perm start b word a end finish in
@@ -146,11 +145,11 @@ member-among text (MemberTree.method ty name opening list closing p perm start b
     let methods = flat_map method_classes ms in
     let result = ty_classes head.result in
     let params = decl_classes head.params in
-    let behind : (ns : List ℕ) → Among head.program ns → Among r.2 ns = λ ns k. arg-kept (StayAmong ns) (among ns) text a _ (stmts-kept (StayAmong ns) (among ns) text b head.program k) in
+    let behind : (ns : List ℕ) → Among head.program ns → Among r.2 ns = λ ns k. arg-kept (StayAmong ns) (among ns) text a _ (stmts-kept (StayAmong ns) (among ns) (λ x s h. h) text b head.program k) in
     let first = behind result (params-kept (StayAmong result) (among result) text list _ (type-still-among text ty name s)) in
     let second = behind params (params-among text list _) in (
-      member-kept (StayAmong fields) (among fields) text whole fs ms s h.0,
-      more-among r.2 method_classes ms _ (member-kept (StayAmong methods) (among methods) text whole fs ms s h.1) (both-among r.2 result params first second),
+      member-kept (StayAmong fields) (among fields) (λ x s h. h) text whole fs ms s h.0,
+      more-among r.2 method_classes ms _ (member-kept (StayAmong methods) (among methods) (λ x s h. h) text whole fs ms s h.1) (both-among r.2 result params first second),
     )
 
 members-among : (text : List ℕ) (a : Members) (s : Listing) → MembersAmong (members_of text a s).2 (members_of text a s).0 (members_of text a s).1

@@ -79,7 +79,7 @@ classes-names text (Classes.more_classes list word name opening members closing)
     let x = ident text name front in
     let r = members_of text members x.1 in
     let class : ClassDecl = record { name = x.0; fields = r.0; methods = r.1 } in
-    let kept : r.2.classes ≡ front.classes = members-kept SameClasses same-classes text members x.1 ∙ ident-kept SameClasses same-classes text name front in
+    let kept : r.2.classes ≡ front.classes = members-kept SameClasses same-classes (λ x s. refl) text members x.1 ∙ ident-kept SameClasses same-classes text name front in
     let begun = more-names front x.1 (ident-grows text name front) in
     let ended = more-names x.1 r.2 (members-grows text members x.1) in
     let number = ident-below text name front in

@@ -34,10 +34,9 @@ distinct = record {
   then = λ {s} {t} {u} f g h. g (f h);
   name = λ text t s. number_at-distinct _ s _ refl;
   expr = λ e s h. h;
-  stmt = λ x s h. h;
   mention = λ i s h. h;
 }
 
 -- the names begin with the word `this` alone
 pub meaning-words : (text : List ℕ) (tree : Classes) → AllPairs (λ v w. v ≢ w) (meaning text tree).names
-meaning-words text tree = classes-kept StayDistinct distinct (λ c s h. h) text tree nothing_yet (λ i j d lt in_range. absurd (omega arith))
+meaning-words text tree = classes-kept StayDistinct distinct (λ x s h. h) (λ c s h. h) text tree nothing_yet (λ i j d lt in_range. absurd (omega arith))

@@ -240,7 +240,7 @@ program-told {n} {xs} {ys} text (Classes.more_classes list word name opening mem
     let inner = members_text members (closing ∷ us) in
     let v : Under n xs ys m.2 = record { some = u.some; names = u.names; exprs = u.exprs; stmts = u.stmts } in
     let w = before (then (ident-grows text name r) (members-grows text members x.1)) v in
-    let kept : m.2.classes ≡ r.classes = members-kept SameClasses same-classes text members x.1 ∙ ident-kept SameClasses same-classes text name r in
+    let kept : m.2.classes ≡ r.classes = members-kept SameClasses same-classes (λ x s. refl) text members x.1 ∙ ident-kept SameClasses same-classes text name r in
     let first : AreTold n inner (word ∷ name ∷ opening ∷ inner) [] = until no_methods (skip (skip (skip nothing))) in
     let more : AreTold n us (word ∷ name ∷ opening ∷ inner) (map f m.1) = until (join first (members-told text members x.1 (closing ∷ us) v)) (skip nothing) in
     subst

@@ -135,7 +135,7 @@ classes-places text (Classes.more_classes list word name opening members closing
     let x = ident text name front in
     let r = members_of text members x.1 in
     let c : ClassDecl = record { name = x.0; fields = r.0; methods = r.1 } in
-    let kept : r.2.classes ≡ front.classes = members-kept SameClasses same-classes text members x.1 ∙ ident-kept SameClasses same-classes text name front in
+    let kept : r.2.classes ≡ front.classes = members-kept SameClasses same-classes (λ x s. refl) text members x.1 ∙ ident-kept SameClasses same-classes text name front in
     let all = join (classes-places text list) (after (none (ident-same text name front)) (members-places text members x.1)) in
     let same : bodies (methods_of front) ++ bodies r.1 ≡ bodies (flat_map (λ (c : ClassDecl). c.methods) (r.2.classes ++ c ∷ [])) =
     sym (bodies-last front.classes c) ∙ ap (λ (cs : List ClassDecl). bodies (flat_map (λ (c : ClassDecl). c.methods) (cs ++ c ∷ []))) (sym kept) in
