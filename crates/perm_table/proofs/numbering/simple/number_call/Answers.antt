@@ -55,8 +55,8 @@ returns c =
     let k = setting_of n in
     let call = c.args.call.now in
     let vs = map (argument k) call.args in
-    let begins : c.in_ok-first.first ≡ length c.args.bodies.now.arguments = c.in_ok-first.ensures ∙ c.len.ensures in
-    let counts : c.in_ok-count.count ≡ length vs = c.in_ok-count.ensures ∙ c.len-2.ensures ∙ sym (length-map call.args (argument k)) in
+    let begins : c.in_ok-first.first ≡ length c.args.bodies.now.arguments = c.in_ok-first.ensures ∙ c.len.ensures.value in
+    let counts : c.in_ok-count.count ≡ length vs = c.in_ok-count.ensures ∙ c.len-2.ensures.value ∙ sym (length-map call.args (argument k)) in
     let tells = subst (λ (l : List Arg). TellsArguments c.args.bodies.now c.number_arguments.new.bodies (map (argument k) l)) c.as_slice.ensures c.in_ok-number_arguments.ensures in
     told c.args.bodies.now c.number_arguments.new.bodies (code_of n.tables) vs tells c.args.into (call_tie k call.on call.consumed vs) call.consumed (var_at k call.on) (method_place n.tables (ty_at k call.on) call.«method».name) c.in_ok-first.first
     c.in_ok-count.count c.in_ok-receiver.receiver c.in_ok-routine.routine c.in_ok-receiver.ensures c.in_ok-routine.ensures begins counts

@@ -7,7 +7,7 @@ use Rattle.perm_tree.proofs.Pushes.{more_exprs}
 use Rattle.perm_tree.proofs.program.ProgramBuilder.push_expr.Goals as goal
 
 pub low_among-low-requires-clause-count : goal.low_among-low-requires-clause-count
-low_among-low-requires-clause-count c = omega (arith, c.in_ok-at.ensures, length-lows_of c.self.inside.exprs, ap length c.self.invariant.1, c.len.ensures, ap length c.as_slice.ensures.value)
+low_among-low-requires-clause-count c = omega (arith, c.in_ok-at.ensures, length-lows_of c.self.inside.exprs, ap length c.self.invariant.1, c.len.ensures.value, ap length c.as_slice.ensures.value)
 
 pub invariant_of-self-2 : goal.invariant_of-self-2
 invariant_of-self-2 c =
