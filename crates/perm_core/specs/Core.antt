@@ -1,12 +1,12 @@
 -- The interleaved core: any branch may take the next turn. Its objects have names, which don't depend on the order of events, so two states match where they are equal.
-use Rattle.std.specs.Prelude.{◌≡◌, ◌≢◌, ℕ, ℤ, List, [], Option, Some, None}
-use Rattle.perm_tree.specs.Code.{Routine, UnitCode}
+use Rattle.std.specs.Prelude.{◌≡◌, ◌≢◌, ℕ, List, Option, Some, None}
+use Rattle.perm_tree.specs.Code.{UnitCode}
 use Rattle.perm_meaning.specs.Names.{Name, Mark}
 use Rattle.perm_meaning.specs.Machine as machines
 use Rattle.perm_meaning.specs.Machine.{Machine, Leaf, Way, Final, final}
 use Rattle.perm_meaning.specs.Effects.{Load, Store, Take}
 use Rattle.perm_meaning.specs.Custody.{Moves}
-use Rattle.perm_meaning.specs.NamedHeap.{Held, Op, Branch, Task, State, named, memory}
+use Rattle.perm_meaning.specs.NamedHeap.{Held, Op, Task, State, named, memory}
 use Rattle.perm_meaning.specs.Steps as steps
 use Rattle.perm_meaning.specs.Steps.{within}
 use Rattle.perm_meaning.specs.Outcome.{Outcome, reported}

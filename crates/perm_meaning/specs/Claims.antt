@@ -1,11 +1,11 @@
 -- What holds of the meaning, of the machine on names and of the machine on words.
-use Rattle.std.specs.Prelude.{◌≡◌, ◌≢◌, ℕ, ◌<◌, ◌≤◌, ◌^◌, ℤ, List, [], length, Some, None, slice_get}
+use Rattle.std.specs.Prelude.{◌≡◌, ◌≢◌, ℕ, ◌<◌, ◌≤◌, ◌^◌, ℤ, List, length, Some, slice_get}
 use Rattle.perm_tree.specs.Code.{Routine, UnitCode}
-use Rattle.perm_meaning.specs.Machine.{Machine, Final, Leaf, final, look}
+use Rattle.perm_meaning.specs.Machine.{Machine, Final, final, look}
 use Rattle.perm_meaning.specs.Custody.{Custody, Copies}
 use Rattle.perm_meaning.specs.NamedHeap.{Held, Op, State, named, memory, find}
 use Rattle.perm_meaning.specs.Steps.{Lone, AreOver, lone_task, lone_way, leftmost, alone, within, Refused}
-use Rattle.perm_meaning.specs.Outcome.{Report, Ran, RanFull, RanStuck, outcome, reported, opening_own, opening_heap, opening_need, opening_state}
+use Rattle.perm_meaning.specs.Outcome.{Report, Ran, RanFull, RanStuck, outcome, reported, opening_need, opening_state}
 use Rattle.perm_meaning.specs.Names.{root_name}
 use Rattle.perm_meaning.specs.Objects.{size}
 use Rattle.perm_meaning.specs.WordHeap as on_words

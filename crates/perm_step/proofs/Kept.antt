@@ -1,7 +1,7 @@
 -- In straight code the variables that hold objects hold references to words that are there, and each turn keeps that.
-use Rattle.std.proofs.Common.{◌≡◌, ◌≢◌, ℕ, zero, suc, ◌/◌, ◌%◌, ◌^◌, ◌<◌, ◌≤◌, List, [], ◌∷◌, ◌++◌, length, set, Some, refl, ap, ◌∙◌, arith, inl, inr, length-append}
+use Rattle.std.proofs.Common.{◌≡◌, ◌≢◌, ℕ, zero, suc, ◌/◌, ◌%◌, ◌^◌, ◌<◌, ◌≤◌, List, [], ◌∷◌, ◌++◌, length, set, Some, refl, ap, ◌∙◌, arith, length-append}
 use Rattle.std.specs.Int.{int_wrapping_add}
-use Rattle.std.specs.Prelude.{slice_get, pos, ◌⊎◌}
+use Rattle.std.specs.Prelude.{slice_get, pos}
 use mir.Syntax.{w64}
 use Rattle.std.proofs.lemmas.Option.{slice_get_within}
 use Rattle.perm_tree.specs.declared.ast.BinaryOp.TheVariants.{Plus}

@@ -4,7 +4,7 @@ use Rattle.std.specs.Prelude.{nat_lt, nat_eq, not, cond}
 use Rattle.perm_tree.specs.declared.ast.Span.{Span}
 use Rattle.perm_tree.specs.declared.errors.TrapKind.{TrapKind}
 use Rattle.perm_tree.specs.declared.errors.TrapKind.TheVariants.{StackOverflow}
-use Rattle.perm_tree.specs.Code.{Term, Argument, Code, End, Give, Return, Do, If, While, Par, Recover, Instruction, Tie, UnitCode}
+use Rattle.perm_tree.specs.Code.{Term, Argument, Code, Give, Return, Do, If, While, Par, Recover, Instruction, Tie, UnitCode}
 use Rattle.perm_tree.specs.Links.{Enclosing, InBlock, InRecover, Standing, left_ended, spot_of}
 use Rattle.perm_meaning.specs.Custody.{Copies, while_called, lent_by}
 use Rattle.perm_meaning.specs.Effects.{Tick, Effect, depth_limit, GoesOn, Calls, Calling, effect, Does, Act, Halts}

@@ -1,5 +1,5 @@
 -- What variables and objects hold while straight statements run.
-use Rattle.std.proofs.Common.{◌≡◌, ℕ, zero, suc, ◌+◌, ◌%◌, ◌^◌, ◌<◌, Bool, true, false, List, [], ◌∷◌, ◌++◌, length, Option, Some, None, refl, sym, ap, ◌∙◌, subst, arith, eq-eqb, ne_eqb, ◌≢◌, ◌≤◌}
+use Rattle.std.proofs.Common.{◌≡◌, ℕ, zero, suc, ◌+◌, ◌%◌, ◌^◌, ◌<◌, Bool, true, false, List, [], ◌∷◌, ◌++◌, length, Option, Some, None, refl, sym, ap, ◌∙◌, subst, arith, ne_eqb, ◌≢◌, ◌≤◌}
 use Rattle.std.specs.Prelude.{ℤ, pos, map, slice_get, slice_set}
 use Rattle.std.specs.Int.{cast_unsigned, int_wrapping_add}
 use Rattle.std.proofs.lemmas.Int.{to_z_pos}
@@ -7,7 +7,7 @@ use mir.Syntax.{w64}
 use Rattle.perm_tree.specs.declared.ast.Ty.{Ty}
 use Rattle.perm_tree.specs.declared.ast.Ty.TheVariants.{Long}
 use Rattle.perm_meaning.specs.Values.{Value, Number, Truth, Null, Reference}
-use Rattle.perm_meaning.specs.Names.{Name, Mark, next_name, after_object, Path, Side, OnLeft, OnRight, same_side, same_path, same_name}
+use Rattle.perm_meaning.specs.Names.{Name, Mark, next_name, after_object, same_name}
 use Rattle.perm_meaning.specs.Objects.{Objects, Object, add, put, field_of, value_in, zero_of, with_field_if, this_or}
 use Rattle.perm_meaning.specs.NamedHeap.{Held}
 use Rattle.perm_meaning.specs.Meaning.{Moment}

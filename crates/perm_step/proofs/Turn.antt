@@ -2,7 +2,7 @@
 use Rattle.std.proofs.Common.{◌≡◌, ℕ, suc, List, [], ◌++◌, Option, Some, refl, sym, ap, ◌∙◌, subst}
 use Rattle.perm_tree.specs.declared.ast.Span.{Span}
 use Rattle.perm_tree.specs.declared.errors.TrapKind.{TrapKind}
-use Rattle.perm_tree.specs.Code.{Argument, Code, End, Give, Return, Do, If, While, Par, Recover, Instruction, UnitCode}
+use Rattle.perm_tree.specs.Code.{Argument, Code, Return, Do, Instruction, UnitCode}
 use Rattle.perm_meaning.specs.declared.End.TheVariants.{OutOfTurns}
 use Rattle.perm_meaning.specs.Custody.{Copies}
 use Rattle.perm_meaning.specs.Effects.{Act, Halts, Effect, Does}

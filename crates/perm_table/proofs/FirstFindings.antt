@@ -1,5 +1,5 @@
 -- The first of refusals that are met from the last to the first.
-use Rattle.std.proofs.Common.{◌≡◌, ℕ, ◌-◌, ◌<◌, ◌≤◌, Bool, List, [], ◌∷◌, ◌++◌, length, Option, Some, None, refl, reverse, sym, ap, drop, get_or, ◌∙◌}
+use Rattle.std.proofs.Common.{◌≡◌, ℕ, Bool, List, [], ◌∷◌, ◌++◌, Option, Some, None, refl, reverse, sym, ap, ◌∙◌}
 use Rattle.std.specs.Prelude.{not, map, filter, flat_map, Result, IfOk}
 use Rattle.std.proofs.lemmas.List.{map-append, reverse-append}
 use Rattle.std.proofs.lemmas.List.Elements.{filter-append}

@@ -1,7 +1,6 @@
-use Rattle.std.proofs.Common.{◌≡◌, ◌∙◌, List, Some, ap, map, nat_eq, reverse, subst, sym}
+use Rattle.std.proofs.Common.{◌≡◌, ◌∙◌, Some, ap, map, nat_eq, reverse, subst, sym}
 use Rattle.std.specs.Prelude.{cond}
 use Rattle.indexmap.specs.IndexMap.{get}
-use Rattle.perm_tree.specs.declared.ast.Ident.{Ident}
 use Rattle.perm_table.specs.Findings.{double_with, first_before, sooner, told_if}
 use Rattle.perm_table.proofs.Doubles.{AreDoubles, doubles-more}
 use Rattle.perm_table.proofs.FirstFindings.{reversed-one}
