@@ -31,7 +31,10 @@ use Rattle.perm_rules.proofs.Beginnings.{IsAmong, among-append, among-none, AreA
 use Rattle.perm_rules.proofs.Locals.{locals}
 use Rattle.perm_rules.proofs.Scoped.{AreApart, AllHad, had-behind}
 use Rattle.perm_rules.proofs.StandingTerms.{AllTermsStand, exprs-stand}
-use Rattle.perm_rules.proofs.ApartStatements.{IsTold, block-told, all-told}
+use Rattle.perm_rules.proofs.Pars.OwnVariables.{MethodFacts}
+use Rattle.perm_rules.proofs.Pars.Tellings.{IsTold, Earlier}
+use Rattle.perm_rules.proofs.Pars.Blocks.{block-told}
+use Rattle.perm_rules.proofs.Pars.AllStatements.{all-told}
 
 -- what holds of all elements holds of each
 all-at : {X : Type 0} (P : X → Type 0) (xs : List X) (i : ℕ) (x : X) → All P xs → slice_get xs i ≡ Some x → P x
@@ -144,13 +147,19 @@ module _ (u : Tables) (t : MethodTable) (d : Method) (is : IsResolved u) (apart 
         pick (inl outer) = inr outer.declared
         pick (inr i) = let same : v.declared.start ≡ v.scope.start = locals stmts d.span.end d.body.stmts v i in inl (omega arith)
 
-    told : (at : ℕ) → at < length stmts → IsTold k c refl apart from early exprs terms marks (codes_of k) (all_inner stmts) at
+    abbrev facts : MethodFacts
+    facts = record { setting = k; context = c; exprs = exprs; base = from; types = refl; apart = apart; early = early; terms = terms }
+
+    told : (at : ℕ) → at < length stmts → IsTold facts marks (codes_of k) (all_inner stmts) at
     told at within =
-        all-told k c refl apart from early exprs terms (length u.program.exprs) is.formed.placed.stmts [] [] [] stmts refl refl
+        all-told facts (length u.program.exprs) is.formed.placed.stmts [] [] [] stmts refl refl
         (λ j s q. subst (λ n. slice_get stmts n ≡ Some s) (omega arith) q)
         (λ j none. absurd (omega arith))
         at
         (omega arith)
+
+    abbrev every : Earlier
+    every = record { facts = facts; marks = marks; codes = codes_of k; inner = all_inner stmts; count = length stmts; told = told }
 
     -- what is live at the start begins before the body
     first-begins : AllBegin k.vars from (first_live (routine u t d))
@@ -164,7 +173,7 @@ module _ (u : Tables) (t : MethodTable) (d : Method) (is : IsResolved u) (apart 
 
     method-tells : IsRising from (block_marks marks d.body.stmts back) → AllBelow (length stmts) d.body.stmts → AllSharePlainly c (routine u t d).code × (is_scoped c (routine u t d).code (first_live (routine u t d)) ≡ true)
     method-tells rise below =
-        let body_told = block-told k c refl apart from early exprs terms marks (codes_of k) (all_inner stmts) (length stmts) told from d.body.stmts back below (le_refl from) rise in
+        let body_told = block-told every from d.body.stmts back below (le_refl from) rise in
         let last = block_end stmts from d.body.stmts in
         let end : IsRising last (ends d.span.end ∷ []) = arg-passes exprs (exprs-pass [] u.program.exprs tt) d.back last (ends d.span.end ∷ []) body_told.rise in
         let walks = (body_told.tells d.span.end end.0 had (λ y v here. whole last y v here)).walks in

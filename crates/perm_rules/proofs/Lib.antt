@@ -9,7 +9,7 @@ pub mod Beginnings
 pub mod Locals
 pub mod StandingTerms
 pub mod ApartCodes
-pub mod ApartStatements
+pub mod Pars
 pub mod ApartUnits
 pub mod SetLaws
 pub mod PartLaws

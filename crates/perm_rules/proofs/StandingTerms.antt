@@ -17,6 +17,7 @@ use Rattle.perm_tree.specs.Lookup.{var_place}
 use Rattle.perm_tree.specs.Mentions.{any_in_argument, term_mentions, argument_mentions}
 use Rattle.perm_tree.specs.TextOrder.{Mark, names, IsRising, Marks, expr_marks, marks_at, arg_marks, args_marks, call_marks}
 use Rattle.perm_tree.specs.Vars.{Vars, none, just, plus, IsWithin}
+use Rattle.perm_tree.proofs.Passing.{past-name}
 use Rattle.perm_rules.proofs.Scoped.{Meets, meets-more, named-meets}
 
 -- ---------- what stands in front of marks ----------
@@ -43,6 +44,18 @@ module _ (vars : List VarInfo) where
   -- from an earlier place
   pub stands-from : (lo from : ℕ) (rest : List Mark) (G : Vars) → lo ≤ from → Stands vars from rest G → Stands vars lo rest G
   stands-from lo from rest G low (hi, room, rise, meets) = (hi, omega arith, rise, λ x e. meets-more vars from hi lo hi x low (omega arith) (meets x e))
+
+  -- a variable that stands in front
+  pub stands-also : (lo from : ℕ) (x : ℕ) (rest : List Mark) (G : Vars) → lo ≤ from → Meets vars lo from x → Stands vars from rest G → Stands vars lo rest (plus (just x) G)
+  stands-also lo from x rest G low meets (hi, room, rise, standing) = (hi, omega arith, rise, λ y e. pick y (or_cases (just x y) (G y) e))
+    where
+      pick : (y : ℕ) → (just x y ≡ true) ⊎ (G y ≡ true) → Meets vars lo hi y
+      pick y (inl e) = subst (Meets vars lo hi) (sym (eqb-true y x e)) (meets-more vars lo from lo hi x (omega arith) room meets)
+      pick y (inr g) = meets-more vars from hi lo hi y low (omega arith) (standing y g)
+
+  -- behind a name that is no variable
+  pub stands-past : (lo : ℕ) (f : Ident) (rest : List Mark) (G : Vars) → Stands vars lo (names f ∷ rest) G → Stands vars lo rest G
+  stands-past lo f rest G (hi, room, rise, standing) = (hi, room, past-name f hi rest rise, standing)
 
   -- one part, and behind it another one
   pub stands-then : (lo : ℕ) (on rest : List Mark) (G H : Vars) → Stands vars lo on G → ((mid : ℕ) → lo ≤ mid → IsRising mid on → Stands vars mid rest H) → Stands vars lo rest (plus G H)

@@ -1,0 +1,243 @@
+-- What the marks of the statements of a block tell of the codes of blocks, where those of earlier statements tell so of theirs.
+use Rattle.std.proofs.Common.{◌≡◌, ℕ, ◌<◌, ◌≤◌, true, List, [], ◌∷◌, ◌++◌, Option, Some, None, sym, ap, subst, ◌∙◌, arith, le_refl, inl, inr}
+use Rattle.std.specs.Prelude.{◌⊎◌, not, nat_eq, map, get_or, slice_get}
+use Rattle.std.proofs.lemmas.Bool.{and_parts, or_left, or_right}
+use Rattle.std.proofs.lemmas.List.{append_assoc}
+use Rattle.std.proofs.lemmas.List.Folds.{list_any-append}
+use Rattle.perm_tree.specs.declared.ast.Block.{Block}
+use Rattle.perm_tree.specs.declared.ast.FieldDecl.{FieldDecl}
+use Rattle.perm_tree.specs.declared.ast.Stmt.{Stmt}
+use Rattle.perm_tree.specs.declared.unit.VarInfo.{VarInfo}
+use Rattle.perm_tree.specs.Code.{Code, End}
+use Rattle.perm_tree.specs.CodeOf.{Setting, var_at, own_vars, sequence}
+use Rattle.perm_tree.specs.Mentions.{mentioned, block_mentions}
+use Rattle.perm_tree.specs.Places.{AllBelow, ElseBelow}
+use Rattle.perm_tree.specs.Scopes.{declared_by, declared_if, known_until, end_if, block_end, block_vars, braced_vars, else_stmts}
+use Rattle.perm_tree.specs.TextOrder.{Mark, IsRising, Marks, block_marks}
+use Rattle.perm_tree.specs.Vars.{those}
+use Rattle.perm_rules.specs.Parts.{Context}
+use Rattle.perm_rules.proofs.Scoped.{AllHad, had-left, had-right}
+use Rattle.perm_rules.proofs.Beginnings.{IsAmong, among-append, among-none, Rows, rows-none, rows-more, rows-append, AllNamed, named-rows, AreAll, all-left, all-right, AllBegin, declared-listed}
+use Rattle.perm_rules.proofs.ApartCodes.{Encloses, walks-same, encloses-end}
+use Rattle.perm_rules.proofs.Pars.OwnVariables.{MethodFacts}
+use Rattle.perm_rules.proofs.Pars.Tellings.{Earlier, Tells, tells-none, tells-then, outer-begins, begins-sooner, Ends, TellsIn, IsTold}
+
+module _ (earlier : Earlier) where
+  abbrev facts : MethodFacts
+  facts = earlier.facts
+
+  abbrev vars : List VarInfo
+  vars = facts.setting.vars
+
+  abbrev k : Setting
+  k = facts.setting
+
+  abbrev c : Context
+  c = facts.context
+
+  abbrev stmts : List Stmt
+  stmts = facts.setting.tables.program.stmts
+
+  abbrev base : ℕ
+  base = facts.base
+
+  abbrev ms : List Marks
+  ms = earlier.marks
+
+  abbrev fs : List (Code → Code)
+  fs = earlier.codes
+
+  abbrev inner : List (List VarInfo)
+  inner = earlier.inner
+
+  abbrev n : ℕ
+  n = earlier.count
+
+  -- a block ends at a place, from which the other marks rise; its variables begin in it; and its code tells what it tells
+  pub record BlockEnds (lo hi : ℕ) (rest : List Mark) (ws : ℕ → List VarInfo) (own : List ℕ) (f : Code → Code) : Type 0 where
+    pub room : lo ≤ hi
+    pub rise : IsRising hi rest
+    pub rows : (end : ℕ) → hi ≤ end → Rows lo hi end (ws end)
+    pub tells : (end : ℕ) → hi ≤ end → AllHad vars (ws end) → AreAll vars lo hi (ws end) → Tells facts lo hi end own f
+    pub known : (end : ℕ) → hi ≤ end → (x : ℕ) (v : VarInfo) → slice_get vars x ≡ Some v → IsAmong v (ws end) → hi < v.scope.end → those own x ≡ true
+
+  abbrev pub BlockTold : ℕ → List Mark → List ℕ → Type 0
+  BlockTold lo rest is = BlockEnds lo (block_end stmts lo is) rest (λ end. block_vars stmts inner end is) (own_vars k is) (sequence fs is)
+
+  pub block-told : (lo : ℕ) (is : List ℕ) (rest : List Mark) → AllBelow n is → base ≤ lo → IsRising lo (block_marks ms is rest) → BlockTold lo rest is
+  block-told lo [] rest below up rise = record {
+    room = le_refl lo;
+    rise = rise;
+    rows = λ end more. rows-none lo lo end;
+    tells = λ end more had all. tells-none facts lo lo end (λ code. code) (walks-same vars c lo end) (λ code x e. inl e);
+    known = λ end more x v here at past. absurd (among-none v at);
+  }
+  block-told lo (i ∷ is) rest below up rise = go (earlier.told i below.0) (λ from higher r. block-told from is rest below.1 higher r)
+    where
+      go : IsTold facts ms fs inner i → ((from : ℕ) → base ≤ from → IsRising from (block_marks ms is rest) → BlockTold from rest is) → BlockTold lo rest (i ∷ is)
+      go (s, here, tells) more = both (tells lo (block_marks ms is rest) up rise)
+        where
+          mid : ℕ
+          mid = s.span.end
+
+          f : Code → Code
+          f = get_or fs i (λ c. c)
+
+          ds : List FieldDecl
+          ds = declared_by s.kind
+
+          ws : List VarInfo
+          ws = get_or inner i []
+
+          both : AllNamed lo s.span.end (declared_by s.kind) × Ends facts lo s.span.end (block_marks ms is rest) (get_or inner i []) (TellsIn facts lo s.span.end (declared_by s.kind) (get_or inner i []) (get_or fs i (λ c. c)))
+              → BlockTold lo rest (i ∷ is)
+          both (named, told) =
+              let room : lo ≤ mid = told.room in
+              let later : BlockTold mid rest is = more mid (omega arith) told.rise in
+              let on : mid ≤ block_end stmts mid is = later.room in
+              subst
+              (λ (o : Option Stmt). BlockEnds lo (block_end stmts (end_if lo o) is) rest (λ end. map (known_until end) (declared_if o) ++ (get_or inner i [] ++ block_vars stmts inner end is))
+              (map (λ d. var_at k d.name) (declared_if o) ++ own_vars k is) (λ code. get_or fs i (λ c. c) (sequence fs is code)))
+              (sym here)
+              (record {
+                room = omega arith;
+                rise = later.rise;
+                rows = λ end last. all_rows end last named told.rows (later.rows end last) room on;
+                tells = λ end last had whole. walk end last named told.rows (later.rows end last) room on had whole (told.walk end (omega arith)) (later.tells end last);
+                known = λ end last x v here at past. own_known end last named told.rows on x v here (later.known end last x v here) at past;
+              })
+            where
+              hi : ℕ
+              hi = block_end stmts s.span.end is
+
+              others : ℕ → List VarInfo
+              others end = block_vars stmts inner end is
+
+              all_rows : (end : ℕ) → hi ≤ end → AllNamed lo mid ds → Rows lo mid mid ws → Rows mid hi end (others end) → lo ≤ mid → mid ≤ hi → Rows lo hi end (map (known_until end) ds ++ (ws ++ others end))
+              all_rows end last named rows behind room on =
+                  rows-append lo hi end (map (known_until end) ds) (ws ++ others end) (rows-more lo lo mid hi end end (map (known_until end) ds) (le_refl lo) on (le_refl end) (named-rows lo mid end ds named))
+                  (rows-append lo hi end ws (others end) (rows-more lo lo mid hi mid end ws (le_refl lo) on (omega arith) rows) (rows-more lo mid hi hi end end (others end) room (le_refl hi) (le_refl end) behind))
+
+              own_known : (end : ℕ) → hi ≤ end → AllNamed lo mid ds → Rows lo mid mid ws → mid ≤ hi → (x : ℕ) (v : VarInfo) → slice_get vars x ≡ Some v → (IsAmong v (others end) → hi < v.scope.end → those (own_vars k is) x ≡ true)
+                  → IsAmong v (map (known_until end) ds ++ (ws ++ others end)) → hi < v.scope.end → those (map (λ d. var_at k d.name) ds ++ own_vars k is) x ≡ true
+              own_known end last named rows on x v here later at past = pick (among-append v (map (known_until end) ds) (ws ++ others end) at)
+                where
+                  front : List ℕ
+                  front = map (λ d. var_at k d.name) ds
+
+                  ended : v.scope.end ≤ mid → ⊥
+                  ended l = omega arith
+
+                  inside : IsAmong v ws ⊎ IsAmong v (others end) → those (front ++ own_vars k is) x ≡ true
+                  inside (inl i) = absurd (ended (rows.ends v i))
+                  inside (inr i) = list_any-append (nat_eq x) front (own_vars k is) ∙ or_right (those front x) (those (own_vars k is) x) (later i past)
+
+                  pick : IsAmong v (map (known_until end) ds) ⊎ IsAmong v (ws ++ others end) → those (front ++ own_vars k is) x ≡ true
+                  pick (inl d) = list_any-append (nat_eq x) front (own_vars k is) ∙ or_left (those front x) (those (own_vars k is) x) (declared-listed vars lo mid end ds (omega arith) named facts.apart x v here d)
+                  pick (inr i) = inside (among-append v ws (others end) i)
+
+              walk : (end : ℕ) → hi ≤ end → AllNamed lo mid ds → Rows lo mid mid ws → Rows mid hi end (others end) → lo ≤ mid → mid ≤ hi → AllHad vars (map (known_until end) ds ++ (ws ++ others end))
+                  → AreAll vars lo hi (map (known_until end) ds ++ (ws ++ others end)) → TellsIn facts lo mid ds ws f end → (AllHad vars (others end) → AreAll vars mid hi (others end) → Tells facts mid hi end (own_vars k is) (sequence fs is))
+                  → Tells facts lo hi end (map (λ d. var_at k d.name) ds ++ own_vars k is) (λ code. f (sequence fs is code))
+              walk end last named rows behind room on had whole first second =
+                  let declared = map (known_until end) ds in
+                  let behind_had = had-right vars declared (ws ++ others end) had in
+                  let regroup : (declared ++ ws) ++ others end ≡ declared ++ (ws ++ others end) = append_assoc declared ws (others end) in
+                  let grouped : AreAll vars lo hi ((declared ++ ws) ++ others end) = subst (AreAll vars lo hi) (sym regroup) whole in
+                  let front : Rows lo mid end (declared ++ ws) = rows-append lo mid end declared ws (named-rows lo mid end ds named) (rows-more lo lo mid mid mid end ws (le_refl lo) (le_refl mid) (omega arith) rows) in
+                  tells-then facts lo mid hi end ds ws (others end) (own_vars k is) f (sequence fs is) room on (omega arith) named rows behind.starts whole
+                  (first (had-left vars declared (ws ++ others end) had) (had-left vars ws (others end) behind_had) (all-left vars lo mid hi (declared ++ ws) (others end) on behind.starts grouped))
+                  (second (had-right vars ws (others end) behind_had) (all-right vars lo mid hi (declared ++ ws) (others end) room front.starts grouped))
+
+  -- a block in braces
+  pub record One (lo : ℕ) (rest : List Mark) (is : List ℕ) : Type 0 where
+    pub hi : ℕ
+    pub room : lo ≤ hi
+    pub rise : IsRising hi rest
+    pub rows : Rows lo hi hi (braced_vars stmts inner is)
+    pub block : AllHad vars (braced_vars stmts inner is) → AreAll vars lo hi (braced_vars stmts inner is)
+        → Encloses vars c lo hi (own_vars k is) (sequence fs is End) × AllBegin vars lo (block_mentions (own_vars k is) (sequence fs is End))
+
+  braced : (lo hi : ℕ) (is : List ℕ) → Tells facts lo hi hi (own_vars k is) (sequence fs is) → Encloses vars c lo hi (own_vars k is) (sequence fs is End) × AllBegin vars lo (block_mentions (own_vars k is) (sequence fs is End))
+  braced lo hi is t = (
+    encloses-end vars c lo hi (own_vars k is) (sequence fs is) t.walks t.lies t.fresh,
+    outer-begins facts lo (own_vars k is) (sequence fs is) End (λ x e. absurd (let no : ⊥ = cc e in no)) t.opens,
+  )
+
+  pub one-told : (lo : ℕ) (is : List ℕ) (rest : List Mark) → AllBelow n is → base ≤ lo → IsRising lo (block_marks ms is rest) → One lo rest is
+  one-told lo [] rest below up rise = record {
+    hi = lo;
+    room = le_refl lo;
+    rise = rise;
+    rows = rows-none lo lo lo;
+    block = λ had all. braced lo lo [] (tells-none facts lo lo lo (λ code. code) (walks-same vars c lo lo) (λ code x e. inl e));
+  }
+  one-told lo (i ∷ is) rest below up rise = go (earlier.told i below.0) (block-told lo (i ∷ is) rest below up rise)
+    where
+      go : IsTold facts ms fs inner i → BlockTold lo rest (i ∷ is) → One lo rest (i ∷ is)
+      go (s, here, tells) told = record {
+        hi = hi;
+        room = told.room;
+        rise = told.rise;
+        rows = subst (λ e. Rows lo hi hi (block_vars stmts inner e (i ∷ is))) same (told.rows hi (le_refl hi));
+        block = λ had all. braced lo hi (i ∷ is)
+            (told.tells hi (le_refl hi) (subst (λ e. AllHad vars (block_vars stmts inner e (i ∷ is))) (sym same) had) (subst (λ e. AreAll vars lo hi (block_vars stmts inner e (i ∷ is))) (sym same) all));
+      }
+        where
+          hi : ℕ
+          hi = block_end stmts lo (i ∷ is)
+
+          same : hi ≡ block_end stmts 0 (i ∷ is)
+          same = ap (λ (o : Option Stmt). block_end stmts (end_if lo o) is) here ∙ sym (ap (λ (o : Option Stmt). block_end stmts (end_if 0 o) is) here)
+
+  -- two blocks
+  pub record Two (lo : ℕ) (rest : List Mark) (is js : List ℕ) : Type 0 where
+    pub mid : ℕ
+    pub hi : ℕ
+    pub low : lo ≤ mid
+    pub more : mid ≤ hi
+    pub rise : IsRising hi rest
+    pub rows : Rows lo hi hi (braced_vars stmts inner is ++ braced_vars stmts inner js)
+    pub blocks : AllHad vars (braced_vars stmts inner is ++ braced_vars stmts inner js) → AreAll vars lo hi (braced_vars stmts inner is ++ braced_vars stmts inner js)
+        → (Encloses vars c lo mid (own_vars k is) (sequence fs is End) × AllBegin vars lo (block_mentions (own_vars k is) (sequence fs is End)))
+        × (Encloses vars c mid hi (own_vars k js) (sequence fs js End) × AllBegin vars lo (block_mentions (own_vars k js) (sequence fs js End)))
+
+  pub two-told : (lo : ℕ) (is js : List ℕ) (rest : List Mark) → AllBelow n is → AllBelow n js → base ≤ lo → IsRising lo (block_marks ms is (block_marks ms js rest)) → Two lo rest is js
+  two-told lo is js rest below under up rise = go (one-told lo is (block_marks ms js rest) below up rise)
+    where
+      vs : List VarInfo
+      vs = braced_vars stmts inner is
+
+      ws : List VarInfo
+      ws = braced_vars stmts inner js
+
+      sooner : {mid hi : ℕ} → Rows lo mid mid vs → AreAll vars lo mid vs → Encloses vars c mid hi (own_vars k js) (sequence fs js End) × AllBegin vars mid (block_mentions (own_vars k js) (sequence fs js End))
+          → Encloses vars c mid hi (own_vars k js) (sequence fs js End) × AllBegin vars lo (block_mentions (own_vars k js) (sequence fs js End))
+      sooner {mid} {hi} rows all (block, begins) = (
+        block,
+        λ x e. begins-sooner facts lo mid hi x vs rows all (block.stands x (and_parts (mentioned (sequence fs js End) x) (not (those (own_vars k js) x)) e).0) (begins x e),
+      )
+
+      both : (left : One lo (block_marks ms js rest) is) → One left.hi rest js → Two lo rest is js
+      both left right =
+          let low : lo ≤ left.hi = left.room in
+          let more : left.hi ≤ right.hi = right.room in
+          record {
+            mid = left.hi;
+            hi = right.hi;
+            low = left.room;
+            more = right.room;
+            rise = right.rise;
+            rows = rows-append lo right.hi right.hi vs ws (rows-more lo lo left.hi right.hi left.hi right.hi vs (le_refl lo) more more left.rows) (rows-more lo left.hi right.hi right.hi right.hi right.hi ws low (le_refl right.hi) (le_refl right.hi) right.rows);
+            blocks = λ had all. (
+              left.block (had-left vars vs ws had) (all-left vars lo left.hi right.hi vs ws more right.rows.starts all),
+              sooner left.rows (all-left vars lo left.hi right.hi vs ws more right.rows.starts all) (right.block (had-right vars vs ws had) (all-right vars lo left.hi right.hi vs ws low left.rows.starts all)),
+            );
+          }
+
+      go : One lo (block_marks ms js rest) is → Two lo rest is js
+      go left = let low : lo ≤ left.hi = left.room in both left (one-told left.hi js rest under (omega arith) left.rise)
+
+  pub else-below : (b : Option Block) → ElseBelow n b → AllBelow n (else_stmts b)
+  else-below None below = below
+  else-below (Some b) below = below
