@@ -10,7 +10,7 @@ use Rattle.perm_tree.specs.UnitTables.{Tables}
 use Rattle.perm_tree.proofs.RoutineLaws.{HasVars, IsResolved-vars}
 use Rattle.perm_tree.proofs.RunLaw.{HasRun, IsResolved-run, good_run-types}
 use Rattle.perm_core.specs.Whole.{IsWholeRoutine, IsRun, IsWhole}
-use Rattle.perm_rules.proofs.ApartUnits.{IsResolved-scoped}
+use Rattle.perm_rules.proofs.Pars.{IsResolved-scoped}
 use Rattle.perm_core.proofs.WholeCode.{IsResolved-returns, IsResolved-calls}
 use Rattle.perm_core.proofs.WholeTypes.{IsResolved-known, IsResolved-fields, method-class_within}
 

@@ -18,7 +18,7 @@ use Rattle.perm_rules.specs.Effects.{Effect, changed, then, no_effect, effect, i
 use Rattle.perm_rules.specs.Goes.{hiding}
 use Rattle.perm_rules.specs.FirstRefused.{Entry, entry, entries, first_error, first_refused, or_later}
 use Rattle.perm_rules.proofs.SetLaws.{then_changed, lost_changed, empty_changed}
-use Rattle.perm_rules.proofs.RefusalLaws.{first_error-append}
+use Rattle.perm_rules.proofs.Refusals.ErrorLists.{first_error-append}
 
 -- what is one statement before any rest
 pub record IsStatement (f : Code → Code) : Type 0 where

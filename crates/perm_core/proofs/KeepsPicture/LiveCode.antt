@@ -14,7 +14,7 @@ use Rattle.perm_rules.specs.Effects as effects
 use Rattle.perm_rules.specs.Effects.{changed, instruction_effect, effect, block_effect}
 use Rattle.perm_rules.specs.Goes.{Goes, GoesRound}
 use Rattle.perm_rules.proofs.PartLaws.{known_in}
-use Rattle.perm_rules.proofs.RefusalLaws.{monotone}
+use Rattle.perm_rules.proofs.Effects.{monotone}
 use Rattle.perm_meaning.specs.Expressions.{tagged, clear_all}
 use Rattle.perm_meaning.specs.Machine.{Frame, OpenBlock, OpenRecover, OpenCall, Leaf, On, settled, done}
 use Rattle.perm_meaning.specs.NamedHeap.{Held, Own, Branch}

@@ -17,10 +17,10 @@ use Rattle.perm_rules.specs.Effects.{Effect, changed, effect}
 use Rattle.perm_rules.specs.Goes.{Goes, hiding, joined, context, first_live, IsAccepted}
 use Rattle.perm_rules.specs.Scoping.{has_none, is_scoped}
 use Rattle.perm_rules.proofs.Agree.{agree}
-use Rattle.perm_rules.proofs.ApartCodes.{block-touched, written-touched}
+use Rattle.perm_rules.proofs.Written.{block-touched, written-touched}
 use Rattle.perm_rules.proofs.Fine.{known_code}
 use Rattle.perm_rules.proofs.PartLaws.{applies-none, known_in}
-use Rattle.perm_rules.proofs.RefusalLaws.{monotone}
+use Rattle.perm_rules.proofs.Effects.{monotone}
 use Rattle.perm_meaning.specs.Values.{Value, Reference}
 use Rattle.perm_meaning.specs.Names.{Name}
 use Rattle.perm_meaning.specs.Expressions.{tagged, assign, assign_into, clear, clear_all}

@@ -16,9 +16,9 @@ use Rattle.perm_tree.specs.Scopes.{declared_by, declared_if, known_until, end_if
 use Rattle.perm_tree.specs.TextOrder.{Mark, IsRising, Marks, block_marks}
 use Rattle.perm_tree.specs.Vars.{those}
 use Rattle.perm_rules.specs.Parts.{Context}
-use Rattle.perm_rules.proofs.Scoped.{AllHad, had-left, had-right}
-use Rattle.perm_rules.proofs.Beginnings.{IsAmong, among-append, among-none, Rows, rows-none, rows-more, rows-append, AllNamed, named-rows, AreAll, all-left, all-right, AllBegin, declared-listed}
-use Rattle.perm_rules.proofs.ApartCodes.{Encloses, walks-same, encloses-end}
+use Rattle.perm_rules.proofs.Pars.Scoped.{AllHad, had-left, had-right}
+use Rattle.perm_rules.proofs.Pars.Beginnings.{IsAmong, among-append, among-none, Rows, rows-none, rows-more, rows-append, AllNamed, named-rows, AreAll, all-left, all-right, AllBegin, declared-listed}
+use Rattle.perm_rules.proofs.Pars.CodeWalks.{Encloses, walks-same, encloses-end}
 use Rattle.perm_rules.proofs.Pars.OwnVariables.{MethodFacts}
 use Rattle.perm_rules.proofs.Pars.Tellings.{Earlier, Tells, tells-none, tells-then, outer-begins, begins-sooner, Ends, TellsIn, IsTold}
 

@@ -17,10 +17,10 @@ use Rattle.perm_tree.specs.TextOrder.{Mark, names, ends, IsRising, Marks, marks_
 use Rattle.perm_tree.specs.Vars.{Vars, none, just, plus, IsWithin}
 use Rattle.perm_rules.specs.Parts.{Context}
 use Rattle.perm_rules.specs.Pars.{touched_by}
-use Rattle.perm_rules.proofs.Scoped.{Meets, meets-more, named-meets, AllHad}
-use Rattle.perm_rules.proofs.Beginnings.{among-none, Rows, rows-none, rows-more, AllNamed, named-rows, AreAll, all-right, all-within, Begins, AllBegin}
-use Rattle.perm_rules.proofs.StandingTerms.{Stands, stands-name, stands-past, stands-then, expr-at, arg-stands, call-stands}
-use Rattle.perm_rules.proofs.ApartCodes.{Walks, Encloses, walks-more, do-walks, if-walks, par-walks, while-walks, encloses-sooner, shares-plainly}
+use Rattle.perm_rules.proofs.Pars.Scoped.{Meets, meets-more, named-meets, AllHad}
+use Rattle.perm_rules.proofs.Pars.Beginnings.{among-none, Rows, rows-none, rows-more, AllNamed, named-rows, AreAll, all-right, all-within, Begins, AllBegin}
+use Rattle.perm_rules.proofs.Pars.StandingTerms.{Stands, stands-name, stands-past, stands-then, expr-at, arg-stands, call-stands}
+use Rattle.perm_rules.proofs.Pars.CodeWalks.{Walks, Encloses, walks-more, do-walks, if-walks, par-walks, while-walks, encloses-sooner, shares-plainly}
 use Rattle.perm_rules.proofs.Pars.OwnVariables.{MethodFacts, OwnLie, own-one, own-begun}
 use Rattle.perm_rules.proofs.Pars.Tellings.{Earlier, Opens, walks-open, opens-own, opens-none, Tells, tells-none, Ends, simple, TellsIn}
 use Rattle.perm_rules.proofs.Pars.Blocks.{One, one-told, Two, two-told, else-below}

@@ -9,9 +9,9 @@ use Rattle.perm_tree.specs.Scopes.{known_until}
 use Rattle.perm_tree.specs.TextOrder.{Marks}
 use Rattle.perm_tree.specs.Vars.{those}
 use Rattle.perm_rules.specs.Parts.{Context}
-use Rattle.perm_rules.proofs.Scoped.{LiesIn, lies-more, AreApart, AllHad, declared-lies}
-use Rattle.perm_rules.proofs.Beginnings.{AllNamed, IsBegun, AreBegun, begun-more, declared-begun, AllEarly}
-use Rattle.perm_rules.proofs.StandingTerms.{AllTermsStand}
+use Rattle.perm_rules.proofs.Pars.Scoped.{LiesIn, lies-more, AreApart, AllHad, declared-lies}
+use Rattle.perm_rules.proofs.Pars.Beginnings.{AllNamed, IsBegun, AreBegun, begun-more, declared-begun, AllEarly}
+use Rattle.perm_rules.proofs.Pars.StandingTerms.{AllTermsStand}
 
 -- what a method's code is made with, what its parts are checked by, the marks of its expressions and a place; no two variables of the method have one name, each is declared where its scope begins or before the place, and the expressions stand where their marks do
 pub record MethodFacts : Type 0 where

@@ -19,10 +19,10 @@ use Rattle.perm_tree.specs.Vars.{Vars, none, just, those, plus, IsWithin}
 use Rattle.perm_tree.proofs.Passing.{past-name}
 use Rattle.perm_rules.specs.Parts.{Context}
 use Rattle.perm_rules.specs.Pars.{touched_by}
-use Rattle.perm_rules.proofs.Scoped.{Meets, meets-more, lies-more, named-meets, known-found, AllHad}
-use Rattle.perm_rules.proofs.Beginnings.{IsAmong, among-none, Rows, rows-none, rows-more, AreAll, all-within, Begins, AllBegin, begun-more, hides-begin, tied-hidden}
-use Rattle.perm_rules.proofs.StandingTerms.{Stands, stands-none, stands-name, stands-less, stands-also, stands-past, stands-then, expr-at, arg-stands, args_mention, call-stands}
-use Rattle.perm_rules.proofs.ApartCodes.{Walks, Recovers, walks-more, recover-walks, encloses-give}
+use Rattle.perm_rules.proofs.Pars.Scoped.{Meets, meets-more, lies-more, named-meets, known-found, AllHad}
+use Rattle.perm_rules.proofs.Pars.Beginnings.{IsAmong, among-none, Rows, rows-none, rows-more, AreAll, all-within, Begins, AllBegin, begun-more, hides-begin, tied-hidden}
+use Rattle.perm_rules.proofs.Pars.StandingTerms.{Stands, stands-none, stands-name, stands-less, stands-also, stands-past, stands-then, expr-at, arg-stands, args_mention, call-stands}
+use Rattle.perm_rules.proofs.Pars.CodeWalks.{Walks, Recovers, walks-more, recover-walks, encloses-give}
 use Rattle.perm_rules.proofs.Pars.OwnVariables.{MethodFacts}
 use Rattle.perm_rules.proofs.Pars.Tellings.{Earlier, Opens, walks-open, opens-none, Tells, outer-begins, Ends, simple}
 use Rattle.perm_rules.proofs.Pars.Blocks.{BlockTold, block-told}

@@ -14,10 +14,10 @@ use Rattle.perm_tree.specs.TextOrder.{Mark, ends, IsRising, Marks}
 use Rattle.perm_tree.specs.Vars.{those, plus, IsWithin}
 use Rattle.perm_rules.specs.Parts.{Context}
 use Rattle.perm_rules.specs.Pars.{touched_by}
-use Rattle.perm_rules.proofs.Scoped.{Meets, LiesIn, meets-more, AllHad}
-use Rattle.perm_rules.proofs.Beginnings.{IsAmong, among-append, AllStartIn, Rows, rows-none, AllNamed, AreAll, Begins, AllBegin, AreBegun, declared-listed}
-use Rattle.perm_rules.proofs.StandingTerms.{Stands}
-use Rattle.perm_rules.proofs.ApartCodes.{Walks, walks-then, do-walks}
+use Rattle.perm_rules.proofs.Pars.Scoped.{Meets, LiesIn, meets-more, AllHad}
+use Rattle.perm_rules.proofs.Pars.Beginnings.{IsAmong, among-append, AllStartIn, Rows, rows-none, AllNamed, AreAll, Begins, AllBegin, AreBegun, declared-listed}
+use Rattle.perm_rules.proofs.Pars.StandingTerms.{Stands}
+use Rattle.perm_rules.proofs.Pars.CodeWalks.{Walks, walks-then, do-walks}
 use Rattle.perm_rules.proofs.Pars.OwnVariables.{MethodFacts, own-none, own-both, begun-both}
 
 module _ (facts : MethodFacts) where

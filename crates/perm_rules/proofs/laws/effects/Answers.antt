@@ -1,4 +1,4 @@
-use Rattle.perm_rules.proofs.RefusalLaws.{by_effect, clear, monotone}
+use Rattle.perm_rules.proofs.Effects.{by_effect, clear, monotone}
 use Rattle.perm_rules.proofs.laws.effects.Goals as goal
 
 pub returns : goal.returns

@@ -1,4 +1,4 @@
-use Rattle.perm_rules.proofs.ApartUnits.{IsResolved-shares}
+use Rattle.perm_rules.proofs.Pars.{IsResolved-shares}
 use Rattle.perm_rules.proofs.laws.pars.Goals as goal
 
 pub returns : goal.returns

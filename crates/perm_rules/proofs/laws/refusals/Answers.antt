@@ -1,5 +1,5 @@
-use Rattle.perm_rules.proofs.KnownOnly.{refused_by_known}
-use Rattle.perm_rules.proofs.RefusalLaws.{goes_unrefused, accepted_unrefused, flow_goes}
+use Rattle.perm_rules.proofs.Refusals.KnownOnly.{refused_by_known}
+use Rattle.perm_rules.proofs.Refusals.{goes_unrefused, accepted_unrefused, flow_goes}
 use Rattle.perm_rules.proofs.laws.refusals.Goals as goal
 
 pub returns : goal.returns

@@ -10,7 +10,7 @@ use Rattle.perm_tree.specs.declared.ast.StmtKind.TheVariants.{Declare, Assign, S
 use Rattle.perm_tree.specs.declared.unit.VarInfo.{VarInfo}
 use Rattle.perm_tree.specs.Entries.{entries_from}
 use Rattle.perm_tree.specs.Scopes.{declared_at, known_until, block_end, block_vars, braced_vars, else_stmts, rhs_vars, inner_vars}
-use Rattle.perm_rules.proofs.Beginnings.{IsAmong, among-append, among-none}
+use Rattle.perm_rules.proofs.Pars.Beginnings.{IsAmong, among-append, among-none}
 
 -- so it is of all variables of a list
 abbrev pub AreLocal : List VarInfo → Type 0

@@ -20,7 +20,7 @@ use Rattle.perm_rules.specs.Effects.{Effect, changed, instruction_effect, block_
 use Rattle.perm_rules.specs.Goes.{hiding}
 use Rattle.perm_rules.specs.FirstRefused.{Entry, entries, error_or, first_error, or_later}
 use Rattle.perm_rules.specs.Laws.{AgreeOnKnown, RefusedByKnown}
-use Rattle.perm_rules.proofs.RefusalLaws.{first_error-append}
+use Rattle.perm_rules.proofs.Refusals.ErrorLists.{first_error-append}
 
 -- two sets agree where a test fails
 abbrev Agree : Vars → Vars → Vars → Type 0

@@ -6,7 +6,7 @@ use Rattle.perm_tree.proofs.Programs.{unit, p1, p2, p5}
 use Rattle.perm_tree.proofs.ParPrograms.{p3, p4, p11}
 use Rattle.perm_rules.specs.FirstRefused.{unit_refusal}
 use Rattle.perm_rules.specs.Goes.{IsAccepted}
-use Rattle.perm_rules.proofs.RefusalLaws.{accepted_unrefused}
+use Rattle.perm_rules.proofs.Refusals.{accepted_unrefused}
 
 -- six statements and a `return`
 p1-derived : IsAccepted (code_of (unit p1))

@@ -8,7 +8,7 @@ use Rattle.perm_tree.specs.declared.errors.TypeKind.TheVariants.{UnknownName, Wr
 use Rattle.perm_tree.specs.declared.ast.Rhs.{Rhs}
 use Rattle.perm_tree.proofs.Builder.{Writes, Line, Source, class, field, «method», param, long, bool, ref, num, truth, null, var, binary, negative, value, consume, call, call_consumed, declare, init, assign, expr, consumed, get, take, get_item, new, new_array, result_of, init_recover, assign_recover, set_field, set_item, run, print, if_only, if_else, par}
 use Rattle.perm_tree.proofs.Programs.{run_method}
-use Rattle.perm_rules.proofs.Verdicts.{Verdict, verdict, refused_text, Accepted, Refused}
+use Rattle.perm_rules.proofs.Examples.Verdicts.{Verdict, verdict, refused_text, Accepted, Refused}
 
 -- a class with a field of each permission, and methods with each kind of receiver
 abbrev box : Writes (Unit {0})

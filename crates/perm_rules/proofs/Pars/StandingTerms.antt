@@ -18,7 +18,7 @@ use Rattle.perm_tree.specs.Mentions.{any_in_argument, term_mentions, argument_me
 use Rattle.perm_tree.specs.TextOrder.{Mark, names, IsRising, Marks, expr_marks, marks_at, arg_marks, args_marks, call_marks}
 use Rattle.perm_tree.specs.Vars.{Vars, none, just, plus, IsWithin}
 use Rattle.perm_tree.proofs.Passing.{past-name}
-use Rattle.perm_rules.proofs.Scoped.{Meets, meets-more, named-meets}
+use Rattle.perm_rules.proofs.Pars.Scoped.{Meets, meets-more, named-meets}
 
 -- ---------- what stands in front of marks ----------
 -- up to a place, from which the marks rise, stand the variables of a set

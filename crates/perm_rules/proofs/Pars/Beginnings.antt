@@ -14,7 +14,7 @@ use Rattle.perm_tree.specs.Vars.{Vars, those, plus, minus, meet, some_below}
 use Rattle.perm_rules.specs.Parts.{Context, if_known}
 use Rattle.perm_rules.specs.Pars.{tied_vars}
 use Rattle.perm_rules.specs.Scoping.{has_none, hides_tied}
-use Rattle.perm_rules.proofs.Scoped.{AreApart, known-found}
+use Rattle.perm_rules.proofs.Pars.Scoped.{AreApart, known-found}
 
 -- ---------- lists of variables ----------
 -- a variable stands in a list
