@@ -7,9 +7,9 @@ use Rattle.perm_rules.specs.Parts.{Context, Condition}
 use Rattle.perm_rules.specs.Refusals.{IsAllowed}
 use Rattle.perm_rules.specs.Effects.{Effect, changed, then, instruction_effect, effect, block_effect, either, both, repeated}
 use Rattle.perm_rules.specs.Goes.{hiding, joined, GoesRound, Goes}
-use Rattle.perm_rules.proofs.SetLaws.{IsClear, IsApart, same_set, minus_part, then_changed, if_changed, par_changed, closed_changed, lost_changed, empty_changed, keeps_within, lost_nothing}
-use Rattle.perm_rules.proofs.PartLaws.{allowed_monotone, after_changed, taken_changed}
-use Rattle.perm_rules.proofs.Fine.{IsFine, sides_apart, block_clear, fine_monotone}
+use Rattle.perm_rules.proofs.SetLaws.{IsClear, IsApart, same-set, minus-less, then-changed, if-changed, par-changed, closed-changed, lost-changed, empty-changed, keeps-within, lost-nothing}
+use Rattle.perm_rules.proofs.PartLaws.{allowed-monotone, after-changed, taken-changed}
+use Rattle.perm_rules.proofs.Fine.{IsFine, sides-apart, block-clear, fine-monotone}
 
 -- the code goes from G exactly where it is fine, and then to exactly what its effect gives
 pub record Agrees (c : Context) (a : Code) (G : Vars) : Type 0 where
@@ -17,40 +17,40 @@ pub record Agrees (c : Context) (a : Code) (G : Vars) : Type 0 where
   pub fine : (H : Vars) → Goes c a G H → IsFine c a G
   pub same : (H : Vars) → Goes c a G H → H ≡ changed (effect a) G
 
-goes_at : (c : Context) (a : Code) (G K H L : Vars) → G ≡ K → H ≡ L → Goes c a G H → Goes c a K L
-goes_at c a G K H L e f g = subst (λ (M : Vars). Goes c a K M) f (subst (λ (M : Vars). Goes c a M H) e g)
+goes-between-same : (c : Context) (a : Code) (G K H L : Vars) → G ≡ K → H ≡ L → Goes c a G H → Goes c a K L
+goes-between-same c a G K H L e f g = subst (λ (M : Vars). Goes c a K M) f (subst (λ (M : Vars). Goes c a M H) e g)
 
 -- ---------- a rest behind a statement ----------
 module _ (c : Context) (rest : Code) (e : Effect) (G K : Vars) (is : K ≡ changed e G) (agrees : Agrees c rest (changed e G)) where
-  rest_to : IsFine c rest (changed e G) → Goes c rest K (changed (then e (effect rest)) G)
-  rest_to h = goes_at c rest (changed e G) K (changed (effect rest) (changed e G)) (changed (then e (effect rest)) G) (sym is) (then_changed e (effect rest) G) (agrees.to h)
+  rest-goes : IsFine c rest (changed e G) → Goes c rest K (changed (then e (effect rest)) G)
+  rest-goes h = goes-between-same c rest (changed e G) K (changed (effect rest) (changed e G)) (changed (then e (effect rest)) G) (sym is) (then-changed e (effect rest) G) (agrees.to h)
 
-  rest_fine : (H : Vars) → Goes c rest K H → IsFine c rest (changed e G)
-  rest_fine H g = agrees.fine H (goes_at c rest K (changed e G) H H is refl g)
+  rest-fine : (H : Vars) → Goes c rest K H → IsFine c rest (changed e G)
+  rest-fine H g = agrees.fine H (goes-between-same c rest K (changed e G) H H is refl g)
 
-  rest_same : (H : Vars) → Goes c rest K H → H ≡ changed (then e (effect rest)) G
-  rest_same H g = agrees.same H (goes_at c rest K (changed e G) H H is refl g) ∙ then_changed e (effect rest) G
+  rest-same : (H : Vars) → Goes c rest K H → H ≡ changed (then e (effect rest)) G
+  rest-same H g = agrees.same H (goes-between-same c rest K (changed e G) H H is refl g) ∙ then-changed e (effect rest) G
 
 -- ---------- ends of blocks ----------
-block_ends : (own : List ℕ) (a : Code) (G A : Vars) → A ≡ changed (effect a) G → minus A (those own) ≡ changed (block_effect own a) G
-block_ends own a G A e = ap (λ (M : Vars). minus M (those own)) e ∙ closed_changed (effect a) (those own) G
+block-ends : (own : List ℕ) (a : Code) (G A : Vars) → A ≡ changed (effect a) G → minus A (those own) ≡ changed (block_effect own a) G
+block-ends own a G A e = ap (λ (M : Vars). minus M (those own)) e ∙ closed-changed (effect a) (those own) G
 
-if_ends : (own1 : List ℕ) (a : Code) (own2 : List ℕ) (b : Code) (G A B : Vars) → A ≡ changed (effect a) G → B ≡ changed (effect b) G
+if-ends : (own1 : List ℕ) (a : Code) (own2 : List ℕ) (b : Code) (G A B : Vars) → A ≡ changed (effect a) G → B ≡ changed (effect b) G
     → IsClear (block_effect own1 a) → IsClear (block_effect own2 b)
     → meet (minus A (those own1)) (minus B (those own2)) ≡ changed (either (block_effect own1 a) (block_effect own2 b)) G
-if_ends own1 a own2 b G A B e f p q =
-    ap (λ (M : Vars). meet M (minus B (those own2))) (block_ends own1 a G A e)
-    ∙ (ap (λ (M : Vars). meet (changed (block_effect own1 a) G) M) (block_ends own2 b G B f)
-    ∙ if_changed (block_effect own1 a) (block_effect own2 b) G p q)
+if-ends own1 a own2 b G A B e f p q =
+    ap (λ (M : Vars). meet M (minus B (those own2))) (block-ends own1 a G A e)
+    ∙ (ap (λ (M : Vars). meet (changed (block_effect own1 a) G) M) (block-ends own2 b G B f)
+    ∙ if-changed (block_effect own1 a) (block_effect own2 b) G p q)
 
-par_ends : (own1 : List ℕ) (a : Code) (own2 : List ℕ) (b : Code) (G A B : Vars) → A ≡ changed (effect a) G → B ≡ changed (effect b) G
+par-ends : (own1 : List ℕ) (a : Code) (own2 : List ℕ) (b : Code) (G A B : Vars) → A ≡ changed (effect a) G → B ≡ changed (effect b) G
     → IsClear (block_effect own1 a) → IsClear (block_effect own2 b)
     → IsApart (block_effect own1 a).lost (block_effect own2 b).made × IsApart (block_effect own2 b).lost (block_effect own1 a).made
     → joined G (minus A (those own1)) (minus B (those own2)) ≡ changed (both (block_effect own1 a) (block_effect own2 b)) G
-par_ends own1 a own2 b G A B e f p q apart =
-    ap (λ (M : Vars). joined G M (minus B (those own2))) (block_ends own1 a G A e)
-    ∙ (ap (λ (M : Vars). joined G (changed (block_effect own1 a) G) M) (block_ends own2 b G B f)
-    ∙ par_changed (block_effect own1 a) (block_effect own2 b) G p q apart.0 apart.1)
+par-ends own1 a own2 b G A B e f p q apart =
+    ap (λ (M : Vars). joined G M (minus B (those own2))) (block-ends own1 a G A e)
+    ∙ (ap (λ (M : Vars). joined G (changed (block_effect own1 a) G) M) (block-ends own2 b G B f)
+    ∙ par-changed (block_effect own1 a) (block_effect own2 b) G p q apart.0 apart.1)
 
 -- ---------- loops ----------
 module _ (c : Context) (e : Term) (own : List ℕ) (body : Code) (G : Vars) (agrees : (K : Vars) → Agrees c body K) where
@@ -61,53 +61,53 @@ module _ (c : Context) (e : Term) (own : List ℕ) (body : Code) (G : Vars) (agr
   abbrev kept : Vars
   kept = minus G (block_effect own body).lost
 
-  round_within : (K : Vars) → Rounds K → IsWithin K kept
-  round_within K r =
-      lost_nothing (block_effect own body) K (minus r.ends (those own)) G
-      (block_clear c own body K ((agrees K).fine r.ends r.body)) (block_ends own body K r.ends ((agrees K).same r.ends r.body)) r.again r.part
+  round-within : (K : Vars) → Rounds K → IsWithin K kept
+  round-within K r =
+      lost-nothing (block_effect own body) K (minus r.ends (those own)) G
+      (block-clear c own body K ((agrees K).fine r.ends r.body)) (block-ends own body K r.ends ((agrees K).same r.ends r.body)) r.again r.part
 
   -- where the condition and the body are allowed without what the body loses, that set is the greatest
-  loop_to : IsAllowed c (Condition e) kept → IsFine c body kept → IsGreatest Rounds kept
-  loop_to h f = record {
+  loop-goes : IsAllowed c (Condition e) kept → IsFine c body kept → IsGreatest Rounds kept
+  loop-goes h f = record {
     holds = record {
-      part = minus_part G (block_effect own body).lost;
+      part = minus-less G (block_effect own body).lost;
       tested = h;
       ends = changed (effect body) kept;
       body = (agrees kept).to f;
-      again = subst (λ (M : Vars). IsWithin kept M) (sym (closed_changed (effect body) (those own) kept)) (keeps_within (block_effect own body) G);
+      again = subst (λ (M : Vars). IsWithin kept M) (sym (closed-changed (effect body) (those own) kept)) (keeps-within (block_effect own body) G);
     };
-    greatest = λ K r. round_within K r;
+    greatest = λ K r. round-within K r;
   }
 
-  loop_fine : (K : Vars) → IsGreatest Rounds K → IsAllowed c (Condition e) kept × IsFine c body kept
-  loop_fine K g =
-      let inside : IsWithin K kept = round_within K g.holds in
-      (allowed_monotone c (Condition e) K kept inside g.holds.tested, fine_monotone c body K kept inside ((agrees K).fine g.holds.ends g.holds.body))
+  loop-fine : (K : Vars) → IsGreatest Rounds K → IsAllowed c (Condition e) kept × IsFine c body kept
+  loop-fine K g =
+      let inside : IsWithin K kept = round-within K g.holds in
+      (allowed-monotone c (Condition e) K kept inside g.holds.tested, fine-monotone c body K kept inside ((agrees K).fine g.holds.ends g.holds.body))
 
-  loop_same : (K : Vars) → IsGreatest Rounds K → K ≡ kept
-  loop_same K g =
-      let fine = loop_fine K g in
-      same_set K kept (round_within K g.holds) (g.greatest kept (loop_to fine.0 fine.1).holds)
+  loop-same : (K : Vars) → IsGreatest Rounds K → K ≡ kept
+  loop-same K g =
+      let fine = loop-fine K g in
+      same-set K kept (round-within K g.holds) (g.greatest kept (loop-goes fine.0 fine.1).holds)
 
 -- ---------- all codes ----------
 pub agree : (c : Context) (a : Code) (G : Vars) → Agrees c a G
-agree c End G = record { to = λ h. sym (empty_changed G); fine = λ H g. tt; same = λ H g. g ∙ empty_changed G }
+agree c End G = record { to = λ h. sym (empty-changed G); fine = λ H g. tt; same = λ H g. g ∙ empty-changed G }
 agree c (Give at w x) G = record {
-  to = λ h. (h, sym (taken_changed (just w) (just x) G));
+  to = λ h. (h, sym (taken-changed (just w) (just x) G));
   fine = λ H g. g.0;
-  same = λ H g. g.1 ∙ taken_changed (just w) (just x) G;
+  same = λ H g. g.1 ∙ taken-changed (just w) (just x) G;
 }
 agree c (Return at a) G = record {
-  to = λ h. (h, sym (lost_changed (argument_consumes a) G));
+  to = λ h. (h, sym (lost-changed (argument_consumes a) G));
   fine = λ H g. g.0;
-  same = λ H g. g.1 ∙ lost_changed (argument_consumes a) G;
+  same = λ H g. g.1 ∙ lost-changed (argument_consumes a) G;
 }
 agree c (Do at i rest) G =
     let later = agree c rest (changed (instruction_effect i) G) in
     record {
-      to = λ h. (h.0, rest_to c rest (instruction_effect i) G _ (after_changed i G) later h.1);
-      fine = λ H g. (g.0, rest_fine c rest (instruction_effect i) G _ (after_changed i G) later H g.1);
-      same = λ H g. rest_same c rest (instruction_effect i) G _ (after_changed i G) later H g.1;
+      to = λ h. (h.0, rest-goes c rest (instruction_effect i) G _ (after-changed i G) later h.1);
+      fine = λ H g. (g.0, rest-fine c rest (instruction_effect i) G _ (after-changed i G) later H g.1);
+      same = λ H g. rest-same c rest (instruction_effect i) G _ (after-changed i G) later H g.1;
     }
 agree c (If at e own1 a own2 b rest) G =
     let one = agree c a G in
@@ -120,8 +120,8 @@ agree c (If at e own1 a own2 b rest) G =
         changed (effect b) G,
         one.to h.1,
         two.to h.2,
-        rest_to c rest (either (block_effect own1 a) (block_effect own2 b)) G _
-            (if_ends own1 a own2 b G _ _ refl refl (block_clear c own1 a G h.1) (block_clear c own2 b G h.2)) later h.3,
+        rest-goes c rest (either (block_effect own1 a) (block_effect own2 b)) G _
+            (if-ends own1 a own2 b G _ _ refl refl (block-clear c own1 a G h.1) (block-clear c own2 b G h.2)) later h.3,
       );
       fine = λ H g.
           let f1 = one.fine g.1 g.3 in
@@ -129,14 +129,14 @@ agree c (If at e own1 a own2 b rest) G =
             g.0,
             f1,
             f2,
-            rest_fine c rest (either (block_effect own1 a) (block_effect own2 b)) G _
-                (if_ends own1 a own2 b G g.1 g.2 (one.same g.1 g.3) (two.same g.2 g.4) (block_clear c own1 a G f1) (block_clear c own2 b G f2)) later H g.5,
+            rest-fine c rest (either (block_effect own1 a) (block_effect own2 b)) G _
+                (if-ends own1 a own2 b G g.1 g.2 (one.same g.1 g.3) (two.same g.2 g.4) (block-clear c own1 a G f1) (block-clear c own2 b G f2)) later H g.5,
           );
       same = λ H g.
           let f1 = one.fine g.1 g.3 in
           let f2 = two.fine g.2 g.4 in
-          rest_same c rest (either (block_effect own1 a) (block_effect own2 b)) G _
-          (if_ends own1 a own2 b G g.1 g.2 (one.same g.1 g.3) (two.same g.2 g.4) (block_clear c own1 a G f1) (block_clear c own2 b G f2)) later H g.5;
+          rest-same c rest (either (block_effect own1 a) (block_effect own2 b)) G _
+          (if-ends own1 a own2 b G g.1 g.2 (one.same g.1 g.3) (two.same g.2 g.4) (block-clear c own1 a G f1) (block-clear c own2 b G f2)) later H g.5;
     }
 agree c (While at e own body rest) G =
     let inner : (K : Vars) → Agrees c body K = λ K. agree c body K in
@@ -144,19 +144,19 @@ agree c (While at e own body rest) G =
     record {
       to = λ h. (
         minus G (block_effect own body).lost,
-        loop_to c e own body G inner h.0 h.1,
-        rest_to c rest (repeated (block_effect own body)) G _ (lost_changed (block_effect own body).lost G) later h.2,
+        loop-goes c e own body G inner h.0 h.1,
+        rest-goes c rest (repeated (block_effect own body)) G _ (lost-changed (block_effect own body).lost G) later h.2,
       );
       fine = λ H g.
-          let f = loop_fine c e own body G inner g.0 g.1 in (
+          let f = loop-fine c e own body G inner g.0 g.1 in (
             f.0,
             f.1,
-            rest_fine c rest (repeated (block_effect own body)) G g.0
-                (loop_same c e own body G inner g.0 g.1 ∙ lost_changed (block_effect own body).lost G) later H g.2,
+            rest-fine c rest (repeated (block_effect own body)) G g.0
+                (loop-same c e own body G inner g.0 g.1 ∙ lost-changed (block_effect own body).lost G) later H g.2,
           );
       same = λ H g.
-          rest_same c rest (repeated (block_effect own body)) G g.0
-          (loop_same c e own body G inner g.0 g.1 ∙ lost_changed (block_effect own body).lost G) later H g.2;
+          rest-same c rest (repeated (block_effect own body)) G g.0
+          (loop-same c e own body G inner g.0 g.1 ∙ lost-changed (block_effect own body).lost G) later H g.2;
     }
 agree c (Par at own1 a own2 b rest) G =
     let one = agree c a G in
@@ -169,8 +169,8 @@ agree c (Par at own1 a own2 b rest) G =
         changed (effect b) G,
         one.to h.1,
         two.to h.2,
-        rest_to c rest (both (block_effect own1 a) (block_effect own2 b)) G _
-            (par_ends own1 a own2 b G _ _ refl refl (block_clear c own1 a G h.1) (block_clear c own2 b G h.2) (sides_apart c own1 a own2 b G h.0 h.1 h.2)) later h.3,
+        rest-goes c rest (both (block_effect own1 a) (block_effect own2 b)) G _
+            (par-ends own1 a own2 b G _ _ refl refl (block-clear c own1 a G h.1) (block-clear c own2 b G h.2) (sides-apart c own1 a own2 b G h.0 h.1 h.2)) later h.3,
       );
       fine = λ H g.
           let f1 = one.fine g.1 g.3 in
@@ -178,20 +178,20 @@ agree c (Par at own1 a own2 b rest) G =
             g.0,
             f1,
             f2,
-            rest_fine c rest (both (block_effect own1 a) (block_effect own2 b)) G _
-                (par_ends own1 a own2 b G g.1 g.2 (one.same g.1 g.3) (two.same g.2 g.4) (block_clear c own1 a G f1) (block_clear c own2 b G f2) (sides_apart c own1 a own2 b G g.0 f1 f2)) later H g.5,
+            rest-fine c rest (both (block_effect own1 a) (block_effect own2 b)) G _
+                (par-ends own1 a own2 b G g.1 g.2 (one.same g.1 g.3) (two.same g.2 g.4) (block-clear c own1 a G f1) (block-clear c own2 b G f2) (sides-apart c own1 a own2 b G g.0 f1 f2)) later H g.5,
           );
       same = λ H g.
           let f1 = one.fine g.1 g.3 in
           let f2 = two.fine g.2 g.4 in
-          rest_same c rest (both (block_effect own1 a) (block_effect own2 b)) G _
-          (par_ends own1 a own2 b G g.1 g.2 (one.same g.1 g.3) (two.same g.2 g.4) (block_clear c own1 a G f1) (block_clear c own2 b G f2) (sides_apart c own1 a own2 b G g.0 f1 f2)) later H g.5;
+          rest-same c rest (both (block_effect own1 a) (block_effect own2 b)) G _
+          (par-ends own1 a own2 b G g.1 g.2 (one.same g.1 g.3) (two.same g.2 g.4) (block-clear c own1 a G f1) (block-clear c own2 b G f2) (sides-apart c own1 a own2 b G g.0 f1 f2)) later H g.5;
     }
 agree c (Recover at x own hides body rest) G =
     let inner = agree (hiding hides c) body G in
     let later = agree c rest (changed (block_effect own body) G) in
     record {
-      to = λ h. (h.0, changed (effect body) G, inner.to h.1, rest_to c rest (block_effect own body) G _ (block_ends own body G _ refl) later h.2);
-      fine = λ H g. (g.0, inner.fine g.1 g.2, rest_fine c rest (block_effect own body) G _ (block_ends own body G g.1 (inner.same g.1 g.2)) later H g.3);
-      same = λ H g. rest_same c rest (block_effect own body) G _ (block_ends own body G g.1 (inner.same g.1 g.2)) later H g.3;
+      to = λ h. (h.0, changed (effect body) G, inner.to h.1, rest-goes c rest (block_effect own body) G _ (block-ends own body G _ refl) later h.2);
+      fine = λ H g. (g.0, inner.fine g.1 g.2, rest-fine c rest (block_effect own body) G _ (block-ends own body G g.1 (inner.same g.1 g.2)) later H g.3);
+      same = λ H g. rest-same c rest (block_effect own body) G _ (block-ends own body G g.1 (inner.same g.1 g.2)) later H g.3;
     }

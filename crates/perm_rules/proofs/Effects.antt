@@ -3,19 +3,19 @@ use Rattle.std.proofs.Common.{sym, subst}
 use Rattle.perm_tree.specs.Vars.{Vars, IsWithin}
 use Rattle.perm_rules.specs.Effects.{changed, effect}
 use Rattle.perm_rules.specs.Laws.{GoesByEffect, LosesOrMakes, GoesFromMore}
-use Rattle.perm_rules.proofs.SetLaws.{changed_within}
-use Rattle.perm_rules.proofs.Fine.{fine_clear, fine_monotone}
+use Rattle.perm_rules.proofs.SetLaws.{changed-within}
+use Rattle.perm_rules.proofs.Fine.{fine-clear, fine-monotone}
 use Rattle.perm_rules.proofs.Agree.{agree}
 
-pub by_effect : GoesByEffect
-by_effect c a G H g = (agree c a G).same H g
+pub goes-by-effect : GoesByEffect
+goes-by-effect c a G H g = (agree c a G).same H g
 
-pub clear : LosesOrMakes
-clear c a G H g = fine_clear c a G ((agree c a G).fine H g)
+pub loses-or-makes : LosesOrMakes
+loses-or-makes c a G H g = fine-clear c a G ((agree c a G).fine H g)
 
-pub monotone : GoesFromMore
-monotone c a G H K w g = (
+pub goes-from-more : GoesFromMore
+goes-from-more c a G H K w g = (
   changed (effect a) K,
-  (agree c a K).to (fine_monotone c a G K w ((agree c a G).fine H g)),
-  subst (λ (M : Vars). IsWithin M (changed (effect a) K)) (sym (by_effect c a G H g)) (changed_within (effect a) G K w),
+  (agree c a K).to (fine-monotone c a G K w ((agree c a G).fine H g)),
+  subst (λ (M : Vars). IsWithin M (changed (effect a) K)) (sym (goes-by-effect c a G H g)) (changed-within (effect a) G K w),
 )

@@ -12,8 +12,8 @@ use Rattle.perm_rules.specs.Pars.{touched, touched_by, touches, uses, par_head, 
 use Rattle.perm_rules.specs.Refusals.{IsAllowed}
 use Rattle.perm_rules.specs.Effects.{Effect, changed, instruction_effect, effect, block_effect, either, both, repeated}
 use Rattle.perm_rules.specs.Goes.{hiding}
-use Rattle.perm_rules.proofs.PartLaws.{applies-none, known_in, allowed_monotone, instruction_clear}
-use Rattle.perm_rules.proofs.SetLaws.{IsApart, IsClear, changed_within, clear_then, clear_either, clear_both, clear_closed, clear_none, clear_empty, clear_minus}
+use Rattle.perm_rules.proofs.PartLaws.{applies-none, part-known, allowed-monotone, instruction-clear}
+use Rattle.perm_rules.proofs.SetLaws.{IsApart, IsClear, changed-within, clear-then, clear-either, clear-both, clear-closed, clear-none, clear-empty, clear-minus}
 
 -- each part is allowed with its entry set
 abbrev pub IsFine : Context → Code → Vars → Type 0
@@ -34,59 +34,59 @@ IsFine c (Recover at x own hides body rest) G =
 abbrev IsKnown : Context → Vars → Type 0
 IsKnown c G = (x : ℕ) → G x ≡ true → x < length c.vars
 
-known_plus : (c : Context) (A B : Vars) → IsKnown c A → IsKnown c B → IsKnown c (plus A B)
-known_plus c A B f g x h = elim (or_cases (A x) (B x) h) [ inl a ↦ f x a | inr b ↦ g x b ]
+known-plus : (c : Context) (A B : Vars) → IsKnown c A → IsKnown c B → IsKnown c (plus A B)
+known-plus c A B f g x h = elim (or_cases (A x) (B x) h) [ inl a ↦ f x a | inr b ↦ g x b ]
 
-known_minus : (c : Context) (A B : Vars) → IsKnown c A → IsKnown c (minus A B)
-known_minus c A B f x h = f x (and_parts (A x) (not (B x)) h).0
+known-minus : (c : Context) (A B : Vars) → IsKnown c A → IsKnown c (minus A B)
+known-minus c A B f x h = f x (and_parts (A x) (not (B x)) h).0
 
 -- the variables that stand in a fine code are known
-pub known_code : (c : Context) (a : Code) (G : Vars) → IsFine c a G → IsKnown c (mentioned a)
-known_code c End G h = λ x m. absurd (cc)
-known_code c (Give at w x) G h = known_in c (Given w x) G h
-known_code c (Return at a) G h = known_in c (Returned a) G h
-known_code c (Do at i rest) G h = known_plus c (mentions i) (mentioned rest) (known_in c (Simple i) G h.0) (known_code c rest _ h.1)
-known_code c (If at e own1 a own2 b rest) G h =
-    known_plus c (term_mentions e) _ (known_in c (Condition e) G h.0)
-    (known_plus c (minus (mentioned a) (those own1)) _ (known_minus c (mentioned a) (those own1) (known_code c a G h.1))
-    (known_plus c (minus (mentioned b) (those own2)) (mentioned rest) (known_minus c (mentioned b) (those own2) (known_code c b G h.2)) (known_code c rest _ h.3)))
-known_code c (While at e own body rest) G h =
-    known_plus c (term_mentions e) _ (known_in c (Condition e) _ h.0)
-    (known_plus c (minus (mentioned body) (those own)) (mentioned rest) (known_minus c (mentioned body) (those own) (known_code c body _ h.1)) (known_code c rest _ h.2))
-known_code c (Par at own1 a own2 b rest) G h =
-    known_plus c (minus (mentioned a) (those own1)) _ (known_minus c (mentioned a) (those own1) (known_code c a G h.1))
-    (known_plus c (minus (mentioned b) (those own2)) (mentioned rest) (known_minus c (mentioned b) (those own2) (known_code c b G h.2)) (known_code c rest _ h.3))
-known_code c (Recover at x own hides body rest) G h =
-    known_plus c (just x) _ (known_in c (RecoverHead x) G h.0)
-    (known_plus c (minus (mentioned body) (those own)) (mentioned rest) (known_minus c (mentioned body) (those own) (known_code (hiding hides c) body G h.1)) (known_code c rest _ h.2))
+pub mentioned-known : (c : Context) (a : Code) (G : Vars) → IsFine c a G → IsKnown c (mentioned a)
+mentioned-known c End G h = λ x m. absurd (cc)
+mentioned-known c (Give at w x) G h = part-known c (Given w x) G h
+mentioned-known c (Return at a) G h = part-known c (Returned a) G h
+mentioned-known c (Do at i rest) G h = known-plus c (mentions i) (mentioned rest) (part-known c (Simple i) G h.0) (mentioned-known c rest _ h.1)
+mentioned-known c (If at e own1 a own2 b rest) G h =
+    known-plus c (term_mentions e) _ (part-known c (Condition e) G h.0)
+    (known-plus c (minus (mentioned a) (those own1)) _ (known-minus c (mentioned a) (those own1) (mentioned-known c a G h.1))
+    (known-plus c (minus (mentioned b) (those own2)) (mentioned rest) (known-minus c (mentioned b) (those own2) (mentioned-known c b G h.2)) (mentioned-known c rest _ h.3)))
+mentioned-known c (While at e own body rest) G h =
+    known-plus c (term_mentions e) _ (part-known c (Condition e) _ h.0)
+    (known-plus c (minus (mentioned body) (those own)) (mentioned rest) (known-minus c (mentioned body) (those own) (mentioned-known c body _ h.1)) (mentioned-known c rest _ h.2))
+mentioned-known c (Par at own1 a own2 b rest) G h =
+    known-plus c (minus (mentioned a) (those own1)) _ (known-minus c (mentioned a) (those own1) (mentioned-known c a G h.1))
+    (known-plus c (minus (mentioned b) (those own2)) (mentioned rest) (known-minus c (mentioned b) (those own2) (mentioned-known c b G h.2)) (mentioned-known c rest _ h.3))
+mentioned-known c (Recover at x own hides body rest) G h =
+    known-plus c (just x) _ (part-known c (RecoverHead x) G h.0)
+    (known-plus c (minus (mentioned body) (those own)) (mentioned rest) (known-minus c (mentioned body) (those own) (mentioned-known (hiding hides c) body G h.1)) (mentioned-known c rest _ h.2))
 
 -- ---------- what is lost and made ----------
-minus_in : (A B C : Vars) → IsWithin A C → IsWithin (minus A B) C
-minus_in A B C f x h = f x (and_parts (A x) (not (B x)) h).0
+minus-stays-within : (A B C : Vars) → IsWithin A C → IsWithin (minus A B) C
+minus-stays-within A B C f x h = f x (and_parts (A x) (not (B x)) h).0
 
 -- what a statement loses, before a rest
-lost_then : (s t : Effect) (S T : Vars) → IsWithin s.lost S → IsWithin t.lost T → IsWithin (plus (minus s.lost t.made) t.lost) (plus S T)
-lost_then s t S T f g = within-plus (minus s.lost t.made) S t.lost T (minus_in s.lost t.made S f) g
+lost-then : (s t : Effect) (S T : Vars) → IsWithin s.lost S → IsWithin t.lost T → IsWithin (plus (minus s.lost t.made) t.lost) (plus S T)
+lost-then s t S T f g = within-plus (minus s.lost t.made) S t.lost T (minus-stays-within s.lost t.made S f) g
 
-made_then : (s t : Effect) (S T : Vars) → IsWithin s.made S → IsWithin t.made T → IsWithin (plus (minus s.made t.lost) t.made) (plus S T)
-made_then s t S T f g = within-plus (minus s.made t.lost) S t.made T (minus_in s.made t.lost S f) g
+made-then : (s t : Effect) (S T : Vars) → IsWithin s.made S → IsWithin t.made T → IsWithin (plus (minus s.made t.lost) t.made) (plus S T)
+made-then s t S T f g = within-plus (minus s.made t.lost) S t.made T (minus-stays-within s.made t.lost S f) g
 
-minus_taken : (C A : Vars) → IsWithin (minus C A) (plus C A)
-minus_taken C A = within-left (minus C A) C A (minus_in C A C (same-within C))
+minus-taken : (C A : Vars) → IsWithin (minus C A) (plus C A)
+minus-taken C A = within-left (minus C A) C A (minus-stays-within C A C (same-within C))
 
-instruction_lost : (i : Instruction) → IsWithin (instruction_effect i).lost (touched_by i)
-instruction_lost (Declare x) = same-within _
-instruction_lost (Assign x a) = minus_taken _ _
-instruction_lost (LoadField x y f) = minus_taken none (just x)
-instruction_lost (LoadLength x y) = minus_taken none (just x)
-instruction_lost (LoadItem x y i) = minus_taken none (just x)
-instruction_lost (TakeField x y f) = minus_taken none (just x)
-instruction_lost (NewObject x class) = minus_taken none (just x)
-instruction_lost (NewArray x n) = minus_taken none (just x)
-instruction_lost (StoreField y f a) = minus_taken (argument_consumes a) none
-instruction_lost (StoreItem y i e) = minus_taken none none
-instruction_lost (Invoke into tie consumed y routine args) = minus_taken (consumes (Invoke into tie consumed y routine args)) (just_option into)
-instruction_lost (Print e) = minus_taken none none
+instruction-lost-touched : (i : Instruction) → IsWithin (instruction_effect i).lost (touched_by i)
+instruction-lost-touched (Declare x) = same-within _
+instruction-lost-touched (Assign x a) = minus-taken _ _
+instruction-lost-touched (LoadField x y f) = minus-taken none (just x)
+instruction-lost-touched (LoadLength x y) = minus-taken none (just x)
+instruction-lost-touched (LoadItem x y i) = minus-taken none (just x)
+instruction-lost-touched (TakeField x y f) = minus-taken none (just x)
+instruction-lost-touched (NewObject x class) = minus-taken none (just x)
+instruction-lost-touched (NewArray x n) = minus-taken none (just x)
+instruction-lost-touched (StoreField y f a) = minus-taken (argument_consumes a) none
+instruction-lost-touched (StoreItem y i e) = minus-taken none none
+instruction-lost-touched (Invoke into tie consumed y routine args) = minus-taken (consumes (Invoke into tie consumed y routine args)) (just_option into)
+instruction-lost-touched (Print e) = minus-taken none none
 
 regroup : (A B C : Vars) → IsWithin (plus (plus A B) C) (plus A (plus B C))
 regroup A B C x h =
@@ -96,74 +96,74 @@ regroup A B C x h =
     ]
 
 -- of two blocks, before a rest
-lost_branches : (own1 : List ℕ) (a : Code) (own2 : List ℕ) (b rest : Code)
+branches-lost-touched : (own1 : List ℕ) (a : Code) (own2 : List ℕ) (b rest : Code)
     → IsWithin (effect a).lost (touched a) → IsWithin (effect b).lost (touched b) → IsWithin (effect rest).lost (touched rest)
     → IsWithin (plus (minus (plus (plus (effect a).lost (those own1)) (plus (effect b).lost (those own2))) (effect rest).made) (effect rest).lost) (plus (plus (touched a) (those own1)) (plus (plus (touched b) (those own2)) (touched rest)))
-lost_branches own1 a own2 b rest f g h x l =
+branches-lost-touched own1 a own2 b rest f g h x l =
     regroup (plus (touched a) (those own1)) (plus (touched b) (those own2)) (touched rest) x
-    (lost_then (both (block_effect own1 a) (block_effect own2 b)) (effect rest) (plus (plus (touched a) (those own1)) (plus (touched b) (those own2))) (touched rest)
+    (lost-then (both (block_effect own1 a) (block_effect own2 b)) (effect rest) (plus (plus (touched a) (those own1)) (plus (touched b) (those own2))) (touched rest)
     (within-plus _ (plus (touched a) (those own1)) _ (plus (touched b) (those own2))
     (within-plus _ (touched a) _ (those own1) f (same-within (those own1)))
     (within-plus _ (touched b) _ (those own2) g (same-within (those own2)))) h x l)
 
 -- what code loses it assigns, consumes or declares
-pub lost_in : (a : Code) → IsWithin (effect a).lost (touched a)
-lost_in End = none-within _
-lost_in (Give at w x) = minus_taken (just w) (just x)
-lost_in (Return at a) = same-within _
-lost_in (Do at i rest) = lost_then (instruction_effect i) (effect rest) (touched_by i) (touched rest) (instruction_lost i) (lost_in rest)
-lost_in (If at e own1 a own2 b rest) = lost_branches own1 a own2 b rest (lost_in a) (lost_in b) (lost_in rest)
-lost_in (While at e own body rest) = lost_then (repeated (block_effect own body)) (effect rest) (plus (touched body) (those own)) (touched rest) (within-plus _ (touched body) _ (those own) (lost_in body) (same-within (those own))) (lost_in rest)
-lost_in (Par at own1 a own2 b rest) = lost_branches own1 a own2 b rest (lost_in a) (lost_in b) (lost_in rest)
-lost_in (Recover at x own hides body rest) =
+pub lost-touched : (a : Code) → IsWithin (effect a).lost (touched a)
+lost-touched End = none-within _
+lost-touched (Give at w x) = minus-taken (just w) (just x)
+lost-touched (Return at a) = same-within _
+lost-touched (Do at i rest) = lost-then (instruction_effect i) (effect rest) (touched_by i) (touched rest) (instruction-lost-touched i) (lost-touched rest)
+lost-touched (If at e own1 a own2 b rest) = branches-lost-touched own1 a own2 b rest (lost-touched a) (lost-touched b) (lost-touched rest)
+lost-touched (While at e own body rest) = lost-then (repeated (block_effect own body)) (effect rest) (plus (touched body) (those own)) (touched rest) (within-plus _ (touched body) _ (those own) (lost-touched body) (same-within (those own))) (lost-touched rest)
+lost-touched (Par at own1 a own2 b rest) = branches-lost-touched own1 a own2 b rest (lost-touched a) (lost-touched b) (lost-touched rest)
+lost-touched (Recover at x own hides body rest) =
     within-right _ (just x) (plus (plus (touched body) (those own)) (touched rest))
-    (lost_then (block_effect own body) (effect rest) (plus (touched body) (those own)) (touched rest) (within-plus _ (touched body) _ (those own) (lost_in body) (same-within (those own))) (lost_in rest))
+    (lost-then (block_effect own body) (effect rest) (plus (touched body) (those own)) (touched rest) (within-plus _ (touched body) _ (those own) (lost-touched body) (same-within (those own))) (lost-touched rest))
 
-option_made : (o : Option ℕ) (x : ℕ) → just_option o x ≡ true → any_in_option (nat_eq x) o ≡ true
-option_made None x h = h
-option_made (Some y) x h = h
+option-made : (o : Option ℕ) (x : ℕ) → just_option o x ≡ true → any_in_option (nat_eq x) o ≡ true
+option-made None x h = h
+option-made (Some y) x h = h
 
-instruction_made : (i : Instruction) → IsWithin (instruction_effect i).made (mentions i)
-instruction_made (Declare x) = none-within _
-instruction_made (Assign x a) = λ y h. or_left (nat_eq y x) _ h
-instruction_made (LoadField x y f) = λ z h. or_left (nat_eq z x) _ h
-instruction_made (LoadLength x y) = λ z h. or_left (nat_eq z x) _ h
-instruction_made (LoadItem x y i) = λ z h. or_left (nat_eq z x) _ h
-instruction_made (TakeField x y f) = λ z h. or_left (nat_eq z x) _ h
-instruction_made (NewObject x class) = same-within _
-instruction_made (NewArray x n) = λ z h. or_left (nat_eq z x) _ h
-instruction_made (StoreField y f a) = none-within _
-instruction_made (StoreItem y i e) = none-within _
-instruction_made (Invoke into tie consumed y routine args) = λ z h. or_left (any_in_option (nat_eq z) into) _ (option_made into z h)
-instruction_made (Print e) = none-within _
+instruction-made-mentioned : (i : Instruction) → IsWithin (instruction_effect i).made (mentions i)
+instruction-made-mentioned (Declare x) = none-within _
+instruction-made-mentioned (Assign x a) = λ y h. or_left (nat_eq y x) _ h
+instruction-made-mentioned (LoadField x y f) = λ z h. or_left (nat_eq z x) _ h
+instruction-made-mentioned (LoadLength x y) = λ z h. or_left (nat_eq z x) _ h
+instruction-made-mentioned (LoadItem x y i) = λ z h. or_left (nat_eq z x) _ h
+instruction-made-mentioned (TakeField x y f) = λ z h. or_left (nat_eq z x) _ h
+instruction-made-mentioned (NewObject x class) = same-within _
+instruction-made-mentioned (NewArray x n) = λ z h. or_left (nat_eq z x) _ h
+instruction-made-mentioned (StoreField y f a) = none-within _
+instruction-made-mentioned (StoreItem y i e) = none-within _
+instruction-made-mentioned (Invoke into tie consumed y routine args) = λ z h. or_left (any_in_option (nat_eq z) into) _ (option-made into z h)
+instruction-made-mentioned (Print e) = none-within _
 
-closed_made : (own : List ℕ) (a : Code) → IsWithin (effect a).made (mentioned a) → IsWithin (block_effect own a).made (minus (mentioned a) (those own))
-closed_made own a f = within-minus (effect a).made (mentioned a) (those own) f
+block-made-mentioned : (own : List ℕ) (a : Code) → IsWithin (effect a).made (mentioned a) → IsWithin (block_effect own a).made (minus (mentioned a) (those own))
+block-made-mentioned own a f = within-minus (effect a).made (mentioned a) (those own) f
 
 -- what code makes live stands in it
-pub made_in : (a : Code) → IsWithin (effect a).made (mentioned a)
-made_in End = none-within _
-made_in (Give at w x) = within-right (just x) (just w) (just x) (same-within (just x))
-made_in (Return at a) = none-within _
-made_in (Do at i rest) = made_then (instruction_effect i) (effect rest) (mentions i) (mentioned rest) (instruction_made i) (made_in rest)
-made_in (If at e own1 a own2 b rest) =
+pub made-mentioned : (a : Code) → IsWithin (effect a).made (mentioned a)
+made-mentioned End = none-within _
+made-mentioned (Give at w x) = within-right (just x) (just w) (just x) (same-within (just x))
+made-mentioned (Return at a) = none-within _
+made-mentioned (Do at i rest) = made-then (instruction_effect i) (effect rest) (mentions i) (mentioned rest) (instruction-made-mentioned i) (made-mentioned rest)
+made-mentioned (If at e own1 a own2 b rest) =
     within-right _ (term_mentions e) (plus (minus (mentioned a) (those own1)) (plus (minus (mentioned b) (those own2)) (mentioned rest)))
     (λ x h. regroup (minus (mentioned a) (those own1)) (minus (mentioned b) (those own2)) (mentioned rest) x
-    (made_then (either (block_effect own1 a) (block_effect own2 b)) (effect rest) (plus (minus (mentioned a) (those own1)) (minus (mentioned b) (those own2))) (mentioned rest)
+    (made-then (either (block_effect own1 a) (block_effect own2 b)) (effect rest) (plus (minus (mentioned a) (those own1)) (minus (mentioned b) (those own2))) (mentioned rest)
     (λ y m. or_left (minus (mentioned a) (those own1) y) (minus (mentioned b) (those own2) y)
-    (closed_made own1 a (made_in a) y (and_parts ((block_effect own1 a).made y) ((block_effect own2 b).made y) m).0))
-    (made_in rest) x h))
-made_in (While at e own body rest) =
+    (block-made-mentioned own1 a (made-mentioned a) y (and_parts ((block_effect own1 a).made y) ((block_effect own2 b).made y) m).0))
+    (made-mentioned rest) x h))
+made-mentioned (While at e own body rest) =
     within-right _ (term_mentions e) (plus (minus (mentioned body) (those own)) (mentioned rest))
-    (made_then (repeated (block_effect own body)) (effect rest) (minus (mentioned body) (those own)) (mentioned rest) (none-within _) (made_in rest))
-made_in (Par at own1 a own2 b rest) =
+    (made-then (repeated (block_effect own body)) (effect rest) (minus (mentioned body) (those own)) (mentioned rest) (none-within _) (made-mentioned rest))
+made-mentioned (Par at own1 a own2 b rest) =
     λ x h. regroup (minus (mentioned a) (those own1)) (minus (mentioned b) (those own2)) (mentioned rest) x
-    (made_then (both (block_effect own1 a) (block_effect own2 b)) (effect rest) (plus (minus (mentioned a) (those own1)) (minus (mentioned b) (those own2))) (mentioned rest)
-    (within-plus _ (minus (mentioned a) (those own1)) _ (minus (mentioned b) (those own2)) (closed_made own1 a (made_in a)) (closed_made own2 b (made_in b)))
-    (made_in rest) x h)
-made_in (Recover at x own hides body rest) =
+    (made-then (both (block_effect own1 a) (block_effect own2 b)) (effect rest) (plus (minus (mentioned a) (those own1)) (minus (mentioned b) (those own2))) (mentioned rest)
+    (within-plus _ (minus (mentioned a) (those own1)) _ (minus (mentioned b) (those own2)) (block-made-mentioned own1 a (made-mentioned a)) (block-made-mentioned own2 b (made-mentioned b)))
+    (made-mentioned rest) x h)
+made-mentioned (Recover at x own hides body rest) =
     within-right _ (just x) (plus (minus (mentioned body) (those own)) (mentioned rest))
-    (made_then (block_effect own body) (effect rest) (minus (mentioned body) (those own)) (mentioned rest) (closed_made own body (made_in body)) (made_in rest))
+    (made-then (block_effect own body) (effect rest) (minus (mentioned body) (those own)) (mentioned rest) (block-made-mentioned own body (made-mentioned body)) (made-mentioned rest))
 
 -- ---------- the two sides of a par ----------
 some_below-false : (n : ℕ) (G : Vars) → some_below n G ≡ false → (x : ℕ) → x < n → G x ≡ false
@@ -183,17 +183,17 @@ below-true (suc n) zero lt = refl
 below-true (suc n) (suc x) lt = below-true n x (omega arith)
 
 -- where what the one block touches doesn't stand in the other, what it loses isn't made by the other
-one_side : (c : Context) (own1 : List ℕ) (a : Code) (own2 : List ℕ) (b : Code) (G : Vars)
+one-side : (c : Context) (own1 : List ℕ) (a : Code) (own2 : List ℕ) (b : Code) (G : Vars)
     → some_var c (meet (touches c own1 a) (uses c own2 b)) ≡ false → IsFine c b G → IsApart (block_effect own1 a).lost (block_effect own2 b).made
-one_side c own1 a own2 b G apart fine x = false_from_ne_true ((block_effect own1 a).lost x && (block_effect own2 b).made x) clash
+one-side c own1 a own2 b G apart fine x = false_from_ne_true ((block_effect own1 a).lost x && (block_effect own2 b).made x) clash
   where
     clash : ((block_effect own1 a).lost x && (block_effect own2 b).made x) ≡ true → ⊥
     clash h =
         let parts = and_parts ((block_effect own1 a).lost x) ((block_effect own2 b).made x) h in
-        let stands = closed_made own2 b (made_in b) x parts.1 in
-        let known : x < length c.vars = known_code c b G fine x (and_parts (mentioned b x) (not (those own2 x)) stands).0 in
+        let stands = block-made-mentioned own2 b (made-mentioned b) x parts.1 in
+        let known : x < length c.vars = mentioned-known c b G fine x (and_parts (mentioned b x) (not (those own2 x)) stands).0 in
         let there : below (length c.vars) x ≡ true = below-true (length c.vars) x known in
-        let touched_x = within-plus _ (touched a) _ (those own1) (lost_in a) (same-within (those own1)) x parts.0 in
+        let touched_x = within-plus _ (touched a) _ (those own1) (lost-touched a) (same-within (those own1)) x parts.0 in
         let left : touches c own1 a x ≡ true = and_from (below (length c.vars) x) (plus (touched a) (those own1) x) there touched_x in
         let right : uses c own2 b x ≡ true = and_from (below (length c.vars) x) (minus (mentioned b) (those own2) x) there stands in
         let met : meet (touches c own1 a) (uses c own2 b) x ≡ true = and_from (touches c own1 a x) (uses c own2 b x) left right in
@@ -201,60 +201,60 @@ one_side c own1 a own2 b G apart fine x = false_from_ne_true ((block_effect own1
         let both : true ≡ false = sym met ∙ none_met in
         cc
 
-pub sides_apart : (c : Context) (own1 : List ℕ) (a : Code) (own2 : List ℕ) (b : Code) (G : Vars)
+pub sides-apart : (c : Context) (own1 : List ℕ) (a : Code) (own2 : List ℕ) (b : Code) (G : Vars)
     → IsAllowed c (par_head c own1 a own2 b) G → IsFine c a G → IsFine c b G
     → IsApart (block_effect own1 a).lost (block_effect own2 b).made × IsApart (block_effect own2 b).lost (block_effect own1 a).made
-sides_apart c own1 a own2 b G h f g =
+sides-apart c own1 a own2 b G h f g =
     let shared = applies-none c (par_head c own1 a own2 b) G h ParShared in
     let parts = or_parts (some_var c (meet (touches c own1 a) (uses c own2 b))) _ shared in
     let more = or_parts (some_var c (meet (touches c own2 b) (uses c own1 a))) _ parts.1 in
-    (one_side c own1 a own2 b G parts.0 g, one_side c own2 b own1 a G more.0 f)
+    (one-side c own1 a own2 b G parts.0 g, one-side c own2 b own1 a G more.0 f)
 
 -- ---------- fine codes ----------
 -- a fine code loses nothing that it makes
-pub fine_clear : (c : Context) (a : Code) (G : Vars) → IsFine c a G → IsClear (effect a)
-fine_clear c End G h = clear_empty
-fine_clear c (Give at w x) G h = clear_minus (just w) (just x)
-fine_clear c (Return at a) G h = clear_none (argument_consumes a)
-fine_clear c (Do at i rest) G h = clear_then (instruction_effect i) (effect rest) (instruction_clear i) (fine_clear c rest _ h.1)
-fine_clear c (If at e own1 a own2 b rest) G h =
-    clear_then (either (block_effect own1 a) (block_effect own2 b)) (effect rest)
-    (clear_either (block_effect own1 a) (block_effect own2 b) (clear_closed (effect a) (those own1) (fine_clear c a G h.1)) (clear_closed (effect b) (those own2) (fine_clear c b G h.2)))
-    (fine_clear c rest _ h.3)
-fine_clear c (While at e own body rest) G h =
-    clear_then (repeated (block_effect own body)) (effect rest) (clear_none (block_effect own body).lost) (fine_clear c rest _ h.2)
-fine_clear c (Par at own1 a own2 b rest) G h =
-    let apart = sides_apart c own1 a own2 b G h.0 h.1 h.2 in
-    clear_then (both (block_effect own1 a) (block_effect own2 b)) (effect rest)
-    (clear_both (block_effect own1 a) (block_effect own2 b) (clear_closed (effect a) (those own1) (fine_clear c a G h.1)) (clear_closed (effect b) (those own2) (fine_clear c b G h.2)) apart.0 apart.1)
-    (fine_clear c rest _ h.3)
-fine_clear c (Recover at x own hides body rest) G h =
-    clear_then (block_effect own body) (effect rest) (clear_closed (effect body) (those own) (fine_clear (hiding hides c) body G h.1)) (fine_clear c rest _ h.2)
+pub fine-clear : (c : Context) (a : Code) (G : Vars) → IsFine c a G → IsClear (effect a)
+fine-clear c End G h = clear-empty
+fine-clear c (Give at w x) G h = clear-minus (just w) (just x)
+fine-clear c (Return at a) G h = clear-none (argument_consumes a)
+fine-clear c (Do at i rest) G h = clear-then (instruction_effect i) (effect rest) (instruction-clear i) (fine-clear c rest _ h.1)
+fine-clear c (If at e own1 a own2 b rest) G h =
+    clear-then (either (block_effect own1 a) (block_effect own2 b)) (effect rest)
+    (clear-either (block_effect own1 a) (block_effect own2 b) (clear-closed (effect a) (those own1) (fine-clear c a G h.1)) (clear-closed (effect b) (those own2) (fine-clear c b G h.2)))
+    (fine-clear c rest _ h.3)
+fine-clear c (While at e own body rest) G h =
+    clear-then (repeated (block_effect own body)) (effect rest) (clear-none (block_effect own body).lost) (fine-clear c rest _ h.2)
+fine-clear c (Par at own1 a own2 b rest) G h =
+    let apart = sides-apart c own1 a own2 b G h.0 h.1 h.2 in
+    clear-then (both (block_effect own1 a) (block_effect own2 b)) (effect rest)
+    (clear-both (block_effect own1 a) (block_effect own2 b) (clear-closed (effect a) (those own1) (fine-clear c a G h.1)) (clear-closed (effect b) (those own2) (fine-clear c b G h.2)) apart.0 apart.1)
+    (fine-clear c rest _ h.3)
+fine-clear c (Recover at x own hides body rest) G h =
+    clear-then (block_effect own body) (effect rest) (clear-closed (effect body) (those own) (fine-clear (hiding hides c) body G h.1)) (fine-clear c rest _ h.2)
 
-pub block_clear : (c : Context) (own : List ℕ) (a : Code) (G : Vars) → IsFine c a G → IsClear (block_effect own a)
-block_clear c own a G h = clear_closed (effect a) (those own) (fine_clear c a G h)
+pub block-clear : (c : Context) (own : List ℕ) (a : Code) (G : Vars) → IsFine c a G → IsClear (block_effect own a)
+block-clear c own a G h = clear-closed (effect a) (those own) (fine-clear c a G h)
 
 -- what is fine with a live set is so with a larger one
-pub fine_monotone : (c : Context) (a : Code) (G H : Vars) → IsWithin G H → IsFine c a G → IsFine c a H
-fine_monotone c End G H w h = tt
-fine_monotone c (Give at v x) G H w h = allowed_monotone c (Given v x) G H w h
-fine_monotone c (Return at a) G H w h = allowed_monotone c (Returned a) G H w h
-fine_monotone c (Do at i rest) G H w h =
-    (allowed_monotone c (Simple i) G H w h.0, fine_monotone c rest _ _ (changed_within (instruction_effect i) G H w) h.1)
-fine_monotone c (If at e own1 a own2 b rest) G H w h = (
-  allowed_monotone c (Condition e) G H w h.0,
-  fine_monotone c a G H w h.1,
-  fine_monotone c b G H w h.2,
-  fine_monotone c rest _ _ (changed_within (either (block_effect own1 a) (block_effect own2 b)) G H w) h.3,
+pub fine-monotone : (c : Context) (a : Code) (G H : Vars) → IsWithin G H → IsFine c a G → IsFine c a H
+fine-monotone c End G H w h = tt
+fine-monotone c (Give at v x) G H w h = allowed-monotone c (Given v x) G H w h
+fine-monotone c (Return at a) G H w h = allowed-monotone c (Returned a) G H w h
+fine-monotone c (Do at i rest) G H w h =
+    (allowed-monotone c (Simple i) G H w h.0, fine-monotone c rest _ _ (changed-within (instruction_effect i) G H w) h.1)
+fine-monotone c (If at e own1 a own2 b rest) G H w h = (
+  allowed-monotone c (Condition e) G H w h.0,
+  fine-monotone c a G H w h.1,
+  fine-monotone c b G H w h.2,
+  fine-monotone c rest _ _ (changed-within (either (block_effect own1 a) (block_effect own2 b)) G H w) h.3,
 )
-fine_monotone c (While at e own body rest) G H w h =
+fine-monotone c (While at e own body rest) G H w h =
     let less = within-minus G H (block_effect own body).lost w in
-    (allowed_monotone c (Condition e) _ _ less h.0, fine_monotone c body _ _ less h.1, fine_monotone c rest _ _ (changed_within (repeated (block_effect own body)) G H w) h.2)
-fine_monotone c (Par at own1 a own2 b rest) G H w h = (
-  allowed_monotone c (par_head c own1 a own2 b) G H w h.0,
-  fine_monotone c a G H w h.1,
-  fine_monotone c b G H w h.2,
-  fine_monotone c rest _ _ (changed_within (both (block_effect own1 a) (block_effect own2 b)) G H w) h.3,
+    (allowed-monotone c (Condition e) _ _ less h.0, fine-monotone c body _ _ less h.1, fine-monotone c rest _ _ (changed-within (repeated (block_effect own body)) G H w) h.2)
+fine-monotone c (Par at own1 a own2 b rest) G H w h = (
+  allowed-monotone c (par_head c own1 a own2 b) G H w h.0,
+  fine-monotone c a G H w h.1,
+  fine-monotone c b G H w h.2,
+  fine-monotone c rest _ _ (changed-within (both (block_effect own1 a) (block_effect own2 b)) G H w) h.3,
 )
-fine_monotone c (Recover at x own hides body rest) G H w h =
-    (allowed_monotone c (RecoverHead x) G H w h.0, fine_monotone (hiding hides c) body G H w h.1, fine_monotone c rest _ _ (changed_within (block_effect own body) G H w) h.2)
+fine-monotone c (Recover at x own hides body rest) G H w h =
+    (allowed-monotone c (RecoverHead x) G H w h.0, fine-monotone (hiding hides c) body G H w h.1, fine-monotone c rest _ _ (changed-within (block_effect own body) G H w) h.2)

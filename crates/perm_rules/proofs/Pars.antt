@@ -211,11 +211,11 @@ table-tells u at t d is there table =
 -- ---------- units ----------
 -- so it is of the code with a number
 code-tells : (u : Tables) (at : ℕ) (r : Routine) → IsResolved u → slice_get (code_of u).routines at ≡ Some r → AllSharePlainly (context (code_of u) r) r.code × (is_scoped (context (code_of u) r) r.code (first_live r) ≡ true)
-code-tells u at r is here = by_table (routine-table u u.tables at r (subst (AllMethods u.program) (sym is.tables) (tables_of-methods u.program)) here)
+code-tells u at r is here = by-table (routine-table u u.tables at r (subst (AllMethods u.program) (sym is.tables) (tables_of-methods u.program)) here)
   where
-    by_table : (t : MethodTable) × (d : Method) × (slice_get u.tables at ≡ Some t) × IsTable u.program t d × (routine u t d ≡ r)
+    by-table : (t : MethodTable) × (d : Method) × (slice_get u.tables at ≡ Some t) × IsTable u.program t d × (routine u t d ≡ r)
         → AllSharePlainly (context (code_of u) r) r.code × (is_scoped (context (code_of u) r) r.code (first_live r) ≡ true)
-    by_table (t, d, there, table, same) =
+    by-table (t, d, there, table, same) =
         subst (λ (s : Routine). AllSharePlainly (context (code_of u) s) s.code × (is_scoped (context (code_of u) s) s.code (first_live s) ≡ true)) same (table-tells u at t d is there table)
 
 pub IsResolved-shares : (u : Tables) (at : ℕ) (r : Routine) → IsResolved u → slice_get (code_of u).routines at ≡ Some r → AllSharePlainly (context (code_of u) r) r.code

@@ -17,27 +17,27 @@ use Rattle.perm_rules.specs.Shapes.{lacks_member}
 use Rattle.perm_rules.specs.Refusals.{applies, kinds, IsAllowed}
 use Rattle.perm_rules.specs.Effects.{changed, instruction_effect}
 use Rattle.perm_perm.proofs.OverAll.{implies, implies-at}
-use Rattle.perm_rules.proofs.Truth.{implies-from, table2, table3}
-use Rattle.perm_rules.proofs.SetLaws.{IsClear, from_test, lost_changed, clear_none, clear_minus}
+use Rattle.perm_rules.proofs.Truth.{implies-from, each-of-two, each-of-three}
+use Rattle.perm_rules.proofs.SetLaws.{IsClear, same-by-test, lost-changed, clear-none, clear-minus}
 
 -- ---------- kinds ----------
-find-none_parts : (k : TypeKind) (a : Bool) (rest : Option TypeKind) → cond a (Some k) rest ≡ None → (a ≡ false) × (rest ≡ None)
-find-none_parts k true rest h = absurd (cc)
-find-none_parts k false rest h = (refl, h)
+find-none-parts : (k : TypeKind) (a : Bool) (rest : Option TypeKind) → cond a (Some k) rest ≡ None → (a ≡ false) × (rest ≡ None)
+find-none-parts k true rest h = absurd (cc)
+find-none-parts k false rest h = (refl, h)
 
 -- no kind applies to an allowed part
 pub applies-none : (c : Context) (p : Part) (G : Vars) → IsAllowed c p G → (k : TypeKind) → applies c p G k ≡ false
 applies-none c p G h k =
-    let h1 = find-none_parts UnknownName _ _ h in
-    let h2 = find-none_parts WrongKind _ _ h1.1 in
-    let h3 = find-none_parts Gone _ _ h2.1 in
-    let h4 = find-none_parts NeedsConsume _ _ h3.1 in
-    let h5 = find-none_parts NotAllowedThrough _ _ h4.1 in
-    let h6 = find-none_parts PermissionTooWeak _ _ h5.1 in
-    let h7 = find-none_parts Hidden _ _ h6.1 in
-    let h8 = find-none_parts BadGive _ _ h7.1 in
-    let h9 = find-none_parts ParShared _ _ h8.1 in
-    let h10 = find-none_parts ParPermission _ _ h9.1 in
+    let h1 = find-none-parts UnknownName _ _ h in
+    let h2 = find-none-parts WrongKind _ _ h1.1 in
+    let h3 = find-none-parts Gone _ _ h2.1 in
+    let h4 = find-none-parts NeedsConsume _ _ h3.1 in
+    let h5 = find-none-parts NotAllowedThrough _ _ h4.1 in
+    let h6 = find-none-parts PermissionTooWeak _ _ h5.1 in
+    let h7 = find-none-parts Hidden _ _ h6.1 in
+    let h8 = find-none-parts BadGive _ _ h7.1 in
+    let h9 = find-none-parts ParShared _ _ h8.1 in
+    let h10 = find-none-parts ParPermission _ _ h9.1 in
     elim k as (λ k. applies c p G k ≡ false) [
       | UnknownName ↦ h1.0
       | WrongKind ↦ h2.0
@@ -52,9 +52,9 @@ applies-none c p G h k =
     ]
 
 -- where no kind of the one test applies, none of a test applies that holds of fewer
-find-none_less : (f g : TypeKind → Bool) (ks : List TypeKind) → ((k : TypeKind) → g k ≡ true → f k ≡ true) → find f ks ≡ None → find g ks ≡ None
-find-none_less f g [] less h = refl
-find-none_less f g (k ∷ ks) less h = go (find-none_less f g ks less) (f k) (g k) (less k) h
+find-none-fewer : (f g : TypeKind → Bool) (ks : List TypeKind) → ((k : TypeKind) → g k ≡ true → f k ≡ true) → find f ks ≡ None → find g ks ≡ None
+find-none-fewer f g [] less h = refl
+find-none-fewer f g (k ∷ ks) less h = go (find-none-fewer f g ks less) (f k) (g k) (less k) h
   where
     go : (find f ks ≡ None → find g ks ≡ None) → (a b : Bool) → (b ≡ true → a ≡ true) → cond a (Some k) (find f ks) ≡ None → cond b (Some k) (find g ks) ≡ None
     go r true b l e = absurd (cc)
@@ -62,11 +62,11 @@ find-none_less f g (k ∷ ks) less h = go (find-none_less f g ks less) (f k) (g 
     go r false false l e = r e
 
 -- ---------- tests of variables ----------
-pub or_within : (a b x y : Bool) → (a ≡ true → x ≡ true) → (b ≡ true → y ≡ true) → (a || b) ≡ true → (x || y) ≡ true
-or_within true b true y f g h = refl
-or_within true b false y f g h = let e : false ≡ true = f refl in cc
-or_within false b true y f g h = refl
-or_within false b false y f g h = g h
+pub or-implies : (a b x y : Bool) → (a ≡ true → x ≡ true) → (b ≡ true → y ≡ true) → (a || b) ≡ true → (x || y) ≡ true
+or-implies true b true y f g h = refl
+or-implies true b false y f g h = let e : false ≡ true = f refl in cc
+or-implies false b true y f g h = refl
+or-implies false b false y f g h = g h
 
 module _ (S T : Vars) (w : IsWithin S T) where
   -- a test that holds of more variables holds of some variable wherever the other does
@@ -76,7 +76,7 @@ module _ (S T : Vars) (w : IsWithin S T) where
   any_in_term-within NullLit h = h
   any_in_term-within (Local x) h = w x h
   any_in_term-within (Unary op a) h = any_in_term-within a h
-  any_in_term-within (Binary op a b) h = or_within _ _ _ _ (any_in_term-within a) (any_in_term-within b) h
+  any_in_term-within (Binary op a b) h = or-implies _ _ _ _ (any_in_term-within a) (any_in_term-within b) h
 
   pub any_in_argument-within : (a : Argument) → any_in_argument S a ≡ true → any_in_argument T a ≡ true
   any_in_argument-within (Expression e) h = any_in_term-within e h
@@ -84,7 +84,7 @@ module _ (S T : Vars) (w : IsWithin S T) where
 
   any_in_arguments-within : (args : List Argument) → list_any (any_in_argument S) args ≡ true → list_any (any_in_argument T) args ≡ true
   any_in_arguments-within [] h = h
-  any_in_arguments-within (a ∷ rest) h = or_within _ _ _ _ (any_in_argument-within a) (any_in_arguments-within rest) h
+  any_in_arguments-within (a ∷ rest) h = or-implies _ _ _ _ (any_in_argument-within a) (any_in_arguments-within rest) h
 
   any_in_option-within : (o : Option ℕ) → any_in_option S o ≡ true → any_in_option T o ≡ true
   any_in_option-within None h = h
@@ -92,17 +92,17 @@ module _ (S T : Vars) (w : IsWithin S T) where
 
   any_in_instruction-within : (i : Instruction) → any_in_instruction S i ≡ true → any_in_instruction T i ≡ true
   any_in_instruction-within (Declare x) h = w x h
-  any_in_instruction-within (Assign x a) h = or_within _ _ _ _ (w x) (any_in_argument-within a) h
-  any_in_instruction-within (LoadField x y f) h = or_within _ _ _ _ (w x) (w y) h
-  any_in_instruction-within (LoadLength x y) h = or_within _ _ _ _ (w x) (w y) h
-  any_in_instruction-within (LoadItem x y i) h = or_within _ _ _ _ (w x) (or_within _ _ _ _ (w y) (any_in_term-within i)) h
-  any_in_instruction-within (TakeField x y f) h = or_within _ _ _ _ (w x) (w y) h
+  any_in_instruction-within (Assign x a) h = or-implies _ _ _ _ (w x) (any_in_argument-within a) h
+  any_in_instruction-within (LoadField x y f) h = or-implies _ _ _ _ (w x) (w y) h
+  any_in_instruction-within (LoadLength x y) h = or-implies _ _ _ _ (w x) (w y) h
+  any_in_instruction-within (LoadItem x y i) h = or-implies _ _ _ _ (w x) (or-implies _ _ _ _ (w y) (any_in_term-within i)) h
+  any_in_instruction-within (TakeField x y f) h = or-implies _ _ _ _ (w x) (w y) h
   any_in_instruction-within (NewObject x class) h = w x h
-  any_in_instruction-within (NewArray x n) h = or_within _ _ _ _ (w x) (any_in_term-within n) h
-  any_in_instruction-within (StoreField y f a) h = or_within _ _ _ _ (w y) (any_in_argument-within a) h
-  any_in_instruction-within (StoreItem y i e) h = or_within _ _ _ _ (w y) (or_within _ _ _ _ (any_in_term-within i) (any_in_term-within e)) h
+  any_in_instruction-within (NewArray x n) h = or-implies _ _ _ _ (w x) (any_in_term-within n) h
+  any_in_instruction-within (StoreField y f a) h = or-implies _ _ _ _ (w y) (any_in_argument-within a) h
+  any_in_instruction-within (StoreItem y i e) h = or-implies _ _ _ _ (w y) (or-implies _ _ _ _ (any_in_term-within i) (any_in_term-within e)) h
   any_in_instruction-within (Invoke into tie consumed y routine args) h =
-      or_within _ _ _ _ (any_in_option-within into) (or_within _ _ _ _ (w y) (any_in_arguments-within args)) h
+      or-implies _ _ _ _ (any_in_option-within into) (or-implies _ _ _ _ (w y) (any_in_arguments-within args)) h
   any_in_instruction-within (Print e) h = any_in_term-within e h
 
   pub any_in_part-within : (p : Part) → any_in_part S p ≡ true → any_in_part T p ≡ true
@@ -110,12 +110,12 @@ module _ (S T : Vars) (w : IsWithin S T) where
   any_in_part-within (Condition e) h = any_in_term-within e h
   any_in_part-within (ParHead u1 u2 a1 a2) h = h
   any_in_part-within (RecoverHead x) h = w x h
-  any_in_part-within (Given v x) h = or_within _ _ _ _ (w v) (w x) h
+  any_in_part-within (Given v x) h = or-implies _ _ _ _ (w v) (w x) h
   any_in_part-within (Returned a) h = any_in_argument-within a h
 
 -- a variable that stands in an allowed part is known
-pub known_in : (c : Context) (p : Part) (G : Vars) → IsAllowed c p G → (x : ℕ) → any_in_part (nat_eq x) p ≡ true → x < length c.vars
-known_in c p G h x m = elim (cases_lt x (length c.vars)) [ inl lt ↦ lt | inr past ↦ absurd (clash past) ]
+pub part-known : (c : Context) (p : Part) (G : Vars) → IsAllowed c p G → (x : ℕ) → any_in_part (nat_eq x) p ≡ true → x < length c.vars
+part-known c p G h x m = elim (cases_lt x (length c.vars)) [ inl lt ↦ lt | inr past ↦ absurd (clash past) ]
   where
     unknown : Vars
     unknown y = is_none (type_of c y)
@@ -130,9 +130,9 @@ known_in c p G h x m = elim (cases_lt x (length c.vars)) [ inl lt ↦ lt | inr p
         cc
 
 -- ---------- live sets ----------
-dead_within : (G H : Vars) → IsWithin G H → IsWithin (dead H) (dead G)
-dead_within G H w x h =
-    implies-at _ _ (implies-at _ _ (table2 (λ g k. implies (implies g k) (implies (not k) (not g))) refl (G x) (H x)) (implies-from (G x) (H x) (w x))) h
+dead-within : (G H : Vars) → IsWithin G H → IsWithin (dead H) (dead G)
+dead-within G H w x h =
+    implies-at _ _ (implies-at _ _ (each-of-two (λ g k. implies (implies g k) (implies (not k) (not g))) refl (G x) (H x)) (implies-from (G x) (H x) (w x))) h
 
 after_argument-within : (a : Argument) (G H : Vars) → IsWithin G H → IsWithin (after_argument a G) (after_argument a H)
 after_argument-within a G H w = within-minus G H (argument_consumes a) w
@@ -144,40 +144,40 @@ after_arguments-within (a ∷ rest) G H w = after_arguments-within rest (after_a
 arguments_gone-within : (args : List Argument) (G H : Vars) → IsWithin G H → arguments_gone args H ≡ true → arguments_gone args G ≡ true
 arguments_gone-within [] G H w h = h
 arguments_gone-within (a ∷ rest) G H w h =
-    or_within _ _ _ _ (any_in_argument-within (dead H) (dead G) (dead_within G H w) a)
+    or-implies _ _ _ _ (any_in_argument-within (dead H) (dead G) (dead-within G H w) a)
     (arguments_gone-within rest (after_argument a G) (after_argument a H) (after_argument-within a G H w)) h
 
 call_gone-within : (consumed : Bool) (y : ℕ) (args : List Argument) (G H : Vars) → IsWithin G H → call_gone consumed y args H ≡ true → call_gone consumed y args G ≡ true
 call_gone-within true y args G H w h =
-    or_within _ _ _ _ (dead_within G H w y) (arguments_gone-within args (minus G (just y)) (minus H (just y)) (within-minus G H (just y) w)) h
+    or-implies _ _ _ _ (dead-within G H w y) (arguments_gone-within args (minus G (just y)) (minus H (just y)) (within-minus G H (just y) w)) h
 call_gone-within false y args G H w h =
-    or_within _ _ _ _ (arguments_gone-within args G H w) (dead_within (after_arguments args G) (after_arguments args H) (after_arguments-within args G H w) y) h
+    or-implies _ _ _ _ (arguments_gone-within args G H w) (dead-within (after_arguments args G) (after_arguments args H) (after_arguments-within args G H w) y) h
 
 instruction_gone-within : (i : Instruction) (G H : Vars) → IsWithin G H → instruction_gone i H ≡ true → instruction_gone i G ≡ true
 instruction_gone-within (Declare x) G H w h = h
-instruction_gone-within (Assign x a) G H w h = any_in_argument-within (dead H) (dead G) (dead_within G H w) a h
-instruction_gone-within (LoadField x y f) G H w h = dead_within G H w y h
-instruction_gone-within (LoadLength x y) G H w h = dead_within G H w y h
-instruction_gone-within (LoadItem x y i) G H w h = or_within _ _ _ _ (any_in_term-within (dead H) (dead G) (dead_within G H w) i) (dead_within G H w y) h
-instruction_gone-within (TakeField x y f) G H w h = dead_within G H w y h
+instruction_gone-within (Assign x a) G H w h = any_in_argument-within (dead H) (dead G) (dead-within G H w) a h
+instruction_gone-within (LoadField x y f) G H w h = dead-within G H w y h
+instruction_gone-within (LoadLength x y) G H w h = dead-within G H w y h
+instruction_gone-within (LoadItem x y i) G H w h = or-implies _ _ _ _ (any_in_term-within (dead H) (dead G) (dead-within G H w) i) (dead-within G H w y) h
+instruction_gone-within (TakeField x y f) G H w h = dead-within G H w y h
 instruction_gone-within (NewObject x class) G H w h = h
-instruction_gone-within (NewArray x n) G H w h = any_in_term-within (dead H) (dead G) (dead_within G H w) n h
+instruction_gone-within (NewArray x n) G H w h = any_in_term-within (dead H) (dead G) (dead-within G H w) n h
 instruction_gone-within (StoreField y f a) G H w h =
-    or_within _ _ _ _ (any_in_argument-within (dead H) (dead G) (dead_within G H w) a)
-    (dead_within (after_argument a G) (after_argument a H) (after_argument-within a G H w) y) h
+    or-implies _ _ _ _ (any_in_argument-within (dead H) (dead G) (dead-within G H w) a)
+    (dead-within (after_argument a G) (after_argument a H) (after_argument-within a G H w) y) h
 instruction_gone-within (StoreItem y i e) G H w h =
-    or_within _ _ _ _ (any_in_term-within (dead H) (dead G) (dead_within G H w) i)
-    (or_within _ _ _ _ (any_in_term-within (dead H) (dead G) (dead_within G H w) e) (dead_within G H w y)) h
+    or-implies _ _ _ _ (any_in_term-within (dead H) (dead G) (dead-within G H w) i)
+    (or-implies _ _ _ _ (any_in_term-within (dead H) (dead G) (dead-within G H w) e) (dead-within G H w y)) h
 instruction_gone-within (Invoke into tie consumed y routine args) G H w h = call_gone-within consumed y args G H w h
-instruction_gone-within (Print e) G H w h = any_in_term-within (dead H) (dead G) (dead_within G H w) e h
+instruction_gone-within (Print e) G H w h = any_in_term-within (dead H) (dead G) (dead-within G H w) e h
 
 gone-within : (p : Part) (G H : Vars) → IsWithin G H → gone p H ≡ true → gone p G ≡ true
 gone-within (Simple i) G H w h = instruction_gone-within i G H w h
-gone-within (Condition e) G H w h = any_in_term-within (dead H) (dead G) (dead_within G H w) e h
+gone-within (Condition e) G H w h = any_in_term-within (dead H) (dead G) (dead-within G H w) e h
 gone-within (ParHead u1 u2 a1 a2) G H w h = h
 gone-within (RecoverHead x) G H w h = h
-gone-within (Given v x) G H w h = dead_within G H w v h
-gone-within (Returned a) G H w h = any_in_argument-within (dead H) (dead G) (dead_within G H w) a h
+gone-within (Given v x) G H w h = dead-within G H w v h
+gone-within (Returned a) G H w h = any_in_argument-within (dead H) (dead G) (dead-within G H w) a h
 
 applies-within : (c : Context) (p : Part) (G H : Vars) → IsWithin G H → (k : TypeKind) → applies c p H k ≡ true → applies c p G k ≡ true
 applies-within c p G H w UnknownName h = h
@@ -192,40 +192,40 @@ applies-within c p G H w ParShared h = h
 applies-within c p G H w ParPermission h = h
 
 -- a part that is allowed stays so with a larger live set
-pub allowed_monotone : (c : Context) (p : Part) (G H : Vars) → IsWithin G H → IsAllowed c p G → IsAllowed c p H
-allowed_monotone c p G H w h = find-none_less (applies c p G) (applies c p H) kinds (applies-within c p G H w) h
+pub allowed-monotone : (c : Context) (p : Part) (G H : Vars) → IsWithin G H → IsAllowed c p G → IsAllowed c p H
+allowed-monotone c p G H w h = find-none-fewer (applies c p G) (applies c p H) kinds (applies-within c p G H w) h
 
 -- ---------- effects ----------
-pub taken_changed : (C A G : Vars) → plus (minus G C) A ≡ changed (record { lost = minus C A; made = A }) G
-taken_changed C A G = from_test _ _ (λ x. table3 (λ g c a. beq ((g && not c) || a) ((g && not (c && not a)) || a)) refl (G x) (C x) (A x))
+pub taken-changed : (C A G : Vars) → plus (minus G C) A ≡ changed (record { lost = minus C A; made = A }) G
+taken-changed C A G = same-by-test _ _ (λ x. each-of-three (λ g c a. beq ((g && not c) || a) ((g && not (c && not a)) || a)) refl (G x) (C x) (A x))
 
 -- a simple statement does what its effect says
-pub after_changed : (i : Instruction) (G : Vars) → after i G ≡ changed (instruction_effect i) G
-after_changed (Declare x) G = lost_changed (just x) G
-after_changed (Assign x a) G = taken_changed _ _ G
-after_changed (LoadField x y f) G = taken_changed none (just x) G
-after_changed (LoadLength x y) G = taken_changed none (just x) G
-after_changed (LoadItem x y i) G = taken_changed none (just x) G
-after_changed (TakeField x y f) G = taken_changed none (just x) G
-after_changed (NewObject x class) G = taken_changed none (just x) G
-after_changed (NewArray x n) G = taken_changed none (just x) G
-after_changed (StoreField y f a) G = taken_changed (argument_consumes a) none G
-after_changed (StoreItem y i e) G = taken_changed none none G
-after_changed (Invoke into tie consumed y routine args) G =
-    taken_changed (consumes (Invoke into tie consumed y routine args)) (assigns (Invoke into tie consumed y routine args)) G
-after_changed (Print e) G = taken_changed none none G
+pub after-changed : (i : Instruction) (G : Vars) → after i G ≡ changed (instruction_effect i) G
+after-changed (Declare x) G = lost-changed (just x) G
+after-changed (Assign x a) G = taken-changed _ _ G
+after-changed (LoadField x y f) G = taken-changed none (just x) G
+after-changed (LoadLength x y) G = taken-changed none (just x) G
+after-changed (LoadItem x y i) G = taken-changed none (just x) G
+after-changed (TakeField x y f) G = taken-changed none (just x) G
+after-changed (NewObject x class) G = taken-changed none (just x) G
+after-changed (NewArray x n) G = taken-changed none (just x) G
+after-changed (StoreField y f a) G = taken-changed (argument_consumes a) none G
+after-changed (StoreItem y i e) G = taken-changed none none G
+after-changed (Invoke into tie consumed y routine args) G =
+    taken-changed (consumes (Invoke into tie consumed y routine args)) (assigns (Invoke into tie consumed y routine args)) G
+after-changed (Print e) G = taken-changed none none G
 
-pub instruction_clear : (i : Instruction) → IsClear (instruction_effect i)
-instruction_clear (Declare x) = clear_none (just x)
-instruction_clear (Assign x a) = clear_minus (argument_consumes a) (just x)
-instruction_clear (LoadField x y f) = clear_minus none (just x)
-instruction_clear (LoadLength x y) = clear_minus none (just x)
-instruction_clear (LoadItem x y i) = clear_minus none (just x)
-instruction_clear (TakeField x y f) = clear_minus none (just x)
-instruction_clear (NewObject x class) = clear_minus none (just x)
-instruction_clear (NewArray x n) = clear_minus none (just x)
-instruction_clear (StoreField y f a) = clear_minus (argument_consumes a) none
-instruction_clear (StoreItem y i e) = clear_minus none none
-instruction_clear (Invoke into tie consumed y routine args) =
-    clear_minus (consumes (Invoke into tie consumed y routine args)) (assigns (Invoke into tie consumed y routine args))
-instruction_clear (Print e) = clear_minus none none
+pub instruction-clear : (i : Instruction) → IsClear (instruction_effect i)
+instruction-clear (Declare x) = clear-none (just x)
+instruction-clear (Assign x a) = clear-minus (argument_consumes a) (just x)
+instruction-clear (LoadField x y f) = clear-minus none (just x)
+instruction-clear (LoadLength x y) = clear-minus none (just x)
+instruction-clear (LoadItem x y i) = clear-minus none (just x)
+instruction-clear (TakeField x y f) = clear-minus none (just x)
+instruction-clear (NewObject x class) = clear-minus none (just x)
+instruction-clear (NewArray x n) = clear-minus none (just x)
+instruction-clear (StoreField y f a) = clear-minus (argument_consumes a) none
+instruction-clear (StoreItem y i e) = clear-minus none none
+instruction-clear (Invoke into tie consumed y routine args) =
+    clear-minus (consumes (Invoke into tie consumed y routine args)) (assigns (Invoke into tie consumed y routine args))
+instruction-clear (Print e) = clear-minus none none

@@ -17,7 +17,7 @@ use Rattle.perm_rules.specs.Parts.{Context, Simple}
 use Rattle.perm_rules.specs.Effects.{Effect, changed, then, no_effect, effect, instruction_effect, block_effect, either, both, repeated}
 use Rattle.perm_rules.specs.Goes.{hiding}
 use Rattle.perm_rules.specs.FirstRefused.{Entry, entry, entries, first_error, first_refused, or_later}
-use Rattle.perm_rules.proofs.SetLaws.{then_changed, lost_changed, empty_changed}
+use Rattle.perm_rules.proofs.SetLaws.{then-changed, lost-changed, empty-changed}
 use Rattle.perm_rules.proofs.Refusals.ErrorLists.{first_error-append}
 
 -- what is one statement before any rest
@@ -26,81 +26,81 @@ pub record IsStatement (f : Code → Code) : Type 0 where
   pub effects : (rest : Code) (G : Vars) → changed (effect (f rest)) G ≡ changed (effect rest) (changed (effect (f End)) G)
 
 -- with no rest nothing more is lost or made
-then_nothing : (e : Effect) (G : Vars) → changed e G ≡ changed (then e no_effect) G
-then_nothing e G = empty_changed (changed e G) ∙ then_changed e no_effect G
+then-nothing : (e : Effect) (G : Vars) → changed e G ≡ changed (then e no_effect) G
+then-nothing e G = empty-changed (changed e G) ∙ then-changed e no_effect G
 
 effects-then : (e : Effect) (rest : Code) (G : Vars) → changed (then e (effect rest)) G ≡ changed (effect rest) (changed (then e no_effect) G)
-effects-then e rest G = sym (then_changed e (effect rest) G) ∙ ap (λ (M : Vars). changed (effect rest) M) (then_nothing e G)
+effects-then e rest G = sym (then-changed e (effect rest) G) ∙ ap (λ (M : Vars). changed (effect rest) M) (then-nothing e G)
 
-rest_at : (c : Context) (rest : Code) (G K : Vars) → G ≡ K → entries c rest G ≡ entries c rest K
-rest_at c rest G K e = ap (λ (M : Vars). entries c rest M) e
+rest-entries-same : (c : Context) (rest : Code) (G K : Vars) → G ≡ K → entries c rest G ≡ entries c rest K
+rest-entries-same c rest G K e = ap (λ (M : Vars). entries c rest M) e
 
 -- one list behind an entry and the entries of a block
-behind_block : (x : Entry) (xs rs ss : List Entry) → rs ≡ ss → x ∷ (xs ++ rs) ≡ (x ∷ (xs ++ [])) ++ ss
-behind_block x xs rs ss e = rw e (simp append_assoc)
+behind-block : (x : Entry) (xs rs ss : List Entry) → rs ≡ ss → x ∷ (xs ++ rs) ≡ (x ∷ (xs ++ [])) ++ ss
+behind-block x xs rs ss e = rw e (simp append_assoc)
 
-behind_blocks : (x : Entry) (xs ys rs ss : List Entry) → rs ≡ ss → x ∷ (xs ++ (ys ++ rs)) ≡ (x ∷ (xs ++ (ys ++ []))) ++ ss
-behind_blocks x xs ys rs ss e = rw e (simp append_assoc)
+behind-blocks : (x : Entry) (xs ys rs ss : List Entry) → rs ≡ ss → x ∷ (xs ++ (ys ++ rs)) ≡ (x ∷ (xs ++ (ys ++ []))) ++ ss
+behind-blocks x xs ys rs ss e = rw e (simp append_assoc)
 
 -- ---------- each form ----------
-do_statement : (at : Span) (i : Instruction) → IsStatement (λ rest. Do at i rest)
-do_statement at i = record {
-  parts = λ c rest G. ap (λ (es : List Entry). entry c at (Simple i) G ∷ es) (rest_at c rest _ _ (then_nothing (instruction_effect i) G));
+do-statement : (at : Span) (i : Instruction) → IsStatement (λ rest. Do at i rest)
+do-statement at i = record {
+  parts = λ c rest G. ap (λ (es : List Entry). entry c at (Simple i) G ∷ es) (rest-entries-same c rest _ _ (then-nothing (instruction_effect i) G));
   effects = λ rest G. effects-then (instruction_effect i) rest G;
 }
 
-if_statement : (at : Span) (e : Term) (own1 : List ℕ) (a : Code) (own2 : List ℕ) (b : Code) → IsStatement (λ rest. If at e own1 a own2 b rest)
-if_statement at e own1 a own2 b = record {
-  parts = λ c rest G. behind_blocks _ (entries c a G) (entries c b G) _ _ (rest_at c rest _ _ (then_nothing (either (block_effect own1 a) (block_effect own2 b)) G));
+if-statement : (at : Span) (e : Term) (own1 : List ℕ) (a : Code) (own2 : List ℕ) (b : Code) → IsStatement (λ rest. If at e own1 a own2 b rest)
+if-statement at e own1 a own2 b = record {
+  parts = λ c rest G. behind-blocks _ (entries c a G) (entries c b G) _ _ (rest-entries-same c rest _ _ (then-nothing (either (block_effect own1 a) (block_effect own2 b)) G));
   effects = λ rest G. effects-then (either (block_effect own1 a) (block_effect own2 b)) rest G;
 }
 
-while_statement : (at : Span) (e : Term) (own : List ℕ) (body : Code) → IsStatement (λ rest. While at e own body rest)
-while_statement at e own body = record {
+while-statement : (at : Span) (e : Term) (own : List ℕ) (body : Code) → IsStatement (λ rest. While at e own body rest)
+while-statement at e own body = record {
   parts = λ c rest G.
-      behind_block _ (entries c body (minus G (block_effect own body).lost)) _ _
-      (rest_at c rest _ _ (lost_changed (block_effect own body).lost G ∙ then_nothing (repeated (block_effect own body)) G));
+      behind-block _ (entries c body (minus G (block_effect own body).lost)) _ _
+      (rest-entries-same c rest _ _ (lost-changed (block_effect own body).lost G ∙ then-nothing (repeated (block_effect own body)) G));
   effects = λ rest G. effects-then (repeated (block_effect own body)) rest G;
 }
 
-par_statement : (at : Span) (own1 : List ℕ) (a : Code) (own2 : List ℕ) (b : Code) → IsStatement (λ rest. Par at own1 a own2 b rest)
-par_statement at own1 a own2 b = record {
-  parts = λ c rest G. behind_blocks _ (entries c a G) (entries c b G) _ _ (rest_at c rest _ _ (then_nothing (both (block_effect own1 a) (block_effect own2 b)) G));
+par-statement : (at : Span) (own1 : List ℕ) (a : Code) (own2 : List ℕ) (b : Code) → IsStatement (λ rest. Par at own1 a own2 b rest)
+par-statement at own1 a own2 b = record {
+  parts = λ c rest G. behind-blocks _ (entries c a G) (entries c b G) _ _ (rest-entries-same c rest _ _ (then-nothing (both (block_effect own1 a) (block_effect own2 b)) G));
   effects = λ rest G. effects-then (both (block_effect own1 a) (block_effect own2 b)) rest G;
 }
 
-recover_statement : (at : Span) (x : ℕ) (own hides : List ℕ) (body : Code) → IsStatement (λ rest. Recover at x own hides body rest)
-recover_statement at x own hides body = record {
-  parts = λ c rest G. behind_block _ (entries (hiding hides c) body G) _ _ (rest_at c rest _ _ (then_nothing (block_effect own body) G));
+recover-statement : (at : Span) (x : ℕ) (own hides : List ℕ) (body : Code) → IsStatement (λ rest. Recover at x own hides body rest)
+recover-statement at x own hides body = record {
+  parts = λ c rest G. behind-block _ (entries (hiding hides c) body G) _ _ (rest-entries-same c rest _ _ (then-nothing (block_effect own body) G));
   effects = λ rest G. effects-then (block_effect own body) rest G;
 }
 
 -- ---------- the statements of a program ----------
-assignment_statement : (k : Setting) (codes : List (Code → Code)) (s : Stmt) (x : ℕ) (r : Rhs) → IsStatement (λ rest. assignment k codes s x r rest)
-assignment_statement k codes s x (Value a) = do_statement s.span _
-assignment_statement k codes s x (Field y f) = do_statement s.span _
-assignment_statement k codes s x (TakeRhs y f) = do_statement s.span _
-assignment_statement k codes s x (Item y e) = do_statement s.span _
-assignment_statement k codes s x (New n) = do_statement s.span _
-assignment_statement k codes s x (NewArrayRhs e) = do_statement s.span _
-assignment_statement k codes s x (CallRhs n) = do_statement s.span _
-assignment_statement k codes s x (RecoverRhs b w give) = recover_statement s.head x _ _ _
+assignment-statement : (k : Setting) (codes : List (Code → Code)) (s : Stmt) (x : ℕ) (r : Rhs) → IsStatement (λ rest. assignment k codes s x r rest)
+assignment-statement k codes s x (Value a) = do-statement s.span _
+assignment-statement k codes s x (Field y f) = do-statement s.span _
+assignment-statement k codes s x (TakeRhs y f) = do-statement s.span _
+assignment-statement k codes s x (Item y e) = do-statement s.span _
+assignment-statement k codes s x (New n) = do-statement s.span _
+assignment-statement k codes s x (NewArrayRhs e) = do-statement s.span _
+assignment-statement k codes s x (CallRhs n) = do-statement s.span _
+assignment-statement k codes s x (RecoverRhs b w give) = recover-statement s.head x _ _ _
 
-kind_statement : (k : Setting) (codes : List (Code → Code)) (s : Stmt) (kind : StmtKind) → IsStatement (λ rest. kind_code k codes s kind rest)
-kind_statement k codes s (DeclareStmt t x) = do_statement s.span _
-kind_statement k codes s (AssignStmt t x r) = assignment_statement k codes s _ r
-kind_statement k codes s (SetField y f a) = do_statement s.span _
-kind_statement k codes s (SetItem y i e) = do_statement s.span _
-kind_statement k codes s (CallStmt n) = do_statement s.span _
-kind_statement k codes s (PrintStmt e) = do_statement s.span _
-kind_statement k codes s (IfStmt e a b) = if_statement s.head _ _ _ _ _
-kind_statement k codes s (WhileStmt e a) = while_statement s.head _ _ _
-kind_statement k codes s (ParStmt a b) = par_statement s.head _ _ _ _
+kind-statement : (k : Setting) (codes : List (Code → Code)) (s : Stmt) (kind : StmtKind) → IsStatement (λ rest. kind_code k codes s kind rest)
+kind-statement k codes s (DeclareStmt t x) = do-statement s.span _
+kind-statement k codes s (AssignStmt t x r) = assignment-statement k codes s _ r
+kind-statement k codes s (SetField y f a) = do-statement s.span _
+kind-statement k codes s (SetItem y i e) = do-statement s.span _
+kind-statement k codes s (CallStmt n) = do-statement s.span _
+kind-statement k codes s (PrintStmt e) = do-statement s.span _
+kind-statement k codes s (IfStmt e a b) = if-statement s.head _ _ _ _ _
+kind-statement k codes s (WhileStmt e a) = while-statement s.head _ _ _
+kind-statement k codes s (ParStmt a b) = par-statement s.head _ _ _ _
 
 -- the code of the statement at a place is one statement
-pub stmt_statement : (k : Setting) (at : ℕ) (s : Stmt) → IsPlaced k.tables.program → slice_get k.tables.program.stmts at ≡ Some s → IsStatement (stmt_code k at)
-stmt_statement k at s placed here =
-    subst IsStatement (sym (fun_ext (λ rest. stmt_code-is k at s rest placed here))) (kind_statement k (codes_of k) s s.kind)
+pub placed-statement : (k : Setting) (at : ℕ) (s : Stmt) → IsPlaced k.tables.program → slice_get k.tables.program.stmts at ≡ Some s → IsStatement (stmt_code k at)
+placed-statement k at s placed here =
+    subst IsStatement (sym (fun_ext (λ rest. stmt_code-is k at s rest placed here))) (kind-statement k (codes_of k) s s.kind)
 
 -- ---------- blocks ----------
 -- what is first refused before a rest: what is of the statement, or else of the rest

@@ -22,14 +22,14 @@ beq-true true false h = cc
 beq-true false true h = cc
 beq-true false false h = refl
 
-pub table2 : (f : Bool → Bool → Bool) → each (λ a. each (f a)) ≡ true → (a b : Bool) → f a b ≡ true
-table2 f h a b = each-at (f a) (each-at (λ a. each (f a)) h a) b
+pub each-of-two : (f : Bool → Bool → Bool) → each (λ a. each (f a)) ≡ true → (a b : Bool) → f a b ≡ true
+each-of-two f h a b = each-at (f a) (each-at (λ a. each (f a)) h a) b
 
-pub table3 : (f : Bool → Bool → Bool → Bool) → each (λ a. each (λ b. each (f a b))) ≡ true → (a b c : Bool) → f a b c ≡ true
-table3 f h a b c = table2 (f a) (each-at (λ a. each (λ b. each (f a b))) h a) b c
+pub each-of-three : (f : Bool → Bool → Bool → Bool) → each (λ a. each (λ b. each (f a b))) ≡ true → (a b c : Bool) → f a b c ≡ true
+each-of-three f h a b c = each-of-two (f a) (each-at (λ a. each (λ b. each (f a b))) h a) b c
 
-pub table4 : (f : Bool → Bool → Bool → Bool → Bool) → each (λ a. each (λ b. each (λ c. each (f a b c)))) ≡ true → (a b c d : Bool) → f a b c d ≡ true
-table4 f h a b c d = table3 (f a) (each-at (λ a. each (λ b. each (λ c. each (f a b c)))) h a) b c d
+pub each-of-four : (f : Bool → Bool → Bool → Bool → Bool) → each (λ a. each (λ b. each (λ c. each (f a b c)))) ≡ true → (a b c d : Bool) → f a b c d ≡ true
+each-of-four f h a b c d = each-of-three (f a) (each-at (λ a. each (λ b. each (λ c. each (f a b c)))) h a) b c d
 
-pub table5 : (f : Bool → Bool → Bool → Bool → Bool → Bool) → each (λ a. each (λ b. each (λ c. each (λ d. each (f a b c d))))) ≡ true → (a b c d e : Bool) → f a b c d e ≡ true
-table5 f h a b c d e = table4 (f a) (each-at (λ a. each (λ b. each (λ c. each (λ d. each (f a b c d))))) h a) b c d e
+pub each-of-five : (f : Bool → Bool → Bool → Bool → Bool → Bool) → each (λ a. each (λ b. each (λ c. each (λ d. each (f a b c d))))) ≡ true → (a b c d e : Bool) → f a b c d e ≡ true
+each-of-five f h a b c d e = each-of-four (f a) (each-at (λ a. each (λ b. each (λ c. each (λ d. each (f a b c d))))) h a) b c d e

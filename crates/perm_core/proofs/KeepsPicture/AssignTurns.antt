@@ -14,7 +14,7 @@ use Rattle.perm_rules.specs.Parts.{Context, Simple, type_of, has_isolated}
 use Rattle.perm_rules.specs.Permissions.{argument_weak}
 use Rattle.perm_rules.specs.Shapes.{argument_misfits}
 use Rattle.perm_rules.specs.Refusals.{IsAllowed}
-use Rattle.perm_rules.proofs.PartLaws.{applies-none, known_in}
+use Rattle.perm_rules.proofs.PartLaws.{applies-none, part-known}
 use Rattle.perm_meaning.specs.Values.{Value}
 use Rattle.perm_meaning.specs.Names.{Name}
 use Rattle.perm_meaning.specs.Objects.{Objects}
@@ -120,7 +120,7 @@ module _ (u : UnitCode) (labels : Labels) (h : Objects Name) (at : Way → Way) 
   allowed = (top-goes u below b.own.routine (Do span (Assign x a) rest) st (valued b.own.vars) H goes).1.0
 
   type : (t : Ty) × (type_of c x ≡ Some t)
-  type = get-some c.vars x (known_in (context_above u below b.own.routine st) (Simple (Assign x a)) (valued b.own.vars) allowed x (first (nat_eq x x) (any_in_argument (nat_eq x) a) (eq_itself x)))
+  type = get-some c.vars x (part-known (context_above u below b.own.routine st) (Simple (Assign x a)) (valued b.own.vars) allowed x (first (nat_eq x x) (any_in_argument (nat_eq x) a) (eq_itself x)))
     where
       first : (p q : Bool) → p ≡ true → (p || q) ≡ true
       first true q e = refl

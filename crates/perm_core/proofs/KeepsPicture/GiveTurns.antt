@@ -19,7 +19,7 @@ use Rattle.perm_rules.specs.Permissions.{raised_weak}
 use Rattle.perm_rules.specs.Sorts.{differ}
 use Rattle.perm_rules.specs.Refusals.{IsAllowed}
 use Rattle.perm_rules.specs.Scoping.{has_none, hides_tied}
-use Rattle.perm_rules.proofs.PartLaws.{applies-none, known_in}
+use Rattle.perm_rules.proofs.PartLaws.{applies-none, part-known}
 use Rattle.perm_meaning.specs.Values.{Value}
 use Rattle.perm_meaning.specs.Names.{Name}
 use Rattle.perm_meaning.specs.Objects.{Objects}
@@ -55,10 +55,10 @@ pub give-types : (c : Context) (v x : ℕ) (G : Vars) → IsAllowed c (Given v x
 give-types c v x G allowed = go (get-some c.vars v there_v) (get-some c.vars x there_x)
   where
     there_v : v < length c.vars
-    there_v = known_in c (Given v x) G allowed v (or_left (nat_eq v v) (nat_eq v x) (eq_itself v))
+    there_v = part-known c (Given v x) G allowed v (or_left (nat_eq v v) (nat_eq v x) (eq_itself v))
 
     there_x : x < length c.vars
-    there_x = known_in c (Given v x) G allowed x (or_right (nat_eq x v) (nat_eq x x) (eq_itself x))
+    there_x = part-known c (Given v x) G allowed x (or_right (nat_eq x v) (nat_eq x x) (eq_itself x))
 
     order_of : (a b : Bool) → a ≡ true → (a && not b) ≡ false → b ≡ true
     order_of true true e f = refl

@@ -13,8 +13,8 @@ use Rattle.perm_rules.specs.Liveness.{after}
 use Rattle.perm_rules.specs.Effects as effects
 use Rattle.perm_rules.specs.Effects.{changed, instruction_effect, effect, block_effect}
 use Rattle.perm_rules.specs.Goes.{Goes, GoesRound}
-use Rattle.perm_rules.proofs.PartLaws.{known_in}
-use Rattle.perm_rules.proofs.Effects.{monotone}
+use Rattle.perm_rules.proofs.PartLaws.{part-known}
+use Rattle.perm_rules.proofs.Effects.{goes-from-more}
 use Rattle.perm_meaning.specs.Expressions.{tagged, clear_all}
 use Rattle.perm_meaning.specs.Machine.{Frame, OpenBlock, OpenRecover, OpenCall, Leaf, On, settled, done}
 use Rattle.perm_meaning.specs.NamedHeap.{Held, Own, Branch}
@@ -137,7 +137,7 @@ module _ (u : UnitCode) where
 
   -- code that goes in its place, from no fewer variables than it needs
   instead-from : (below : List ℕ) (m : ℕ) (c : Code) (st : List (Frame Held)) (G H : Vars) (t : Top below m c st G H) (a : Code) (K V : Vars) → Goes (context_above u below m st) a K t.ends → IsWithin K V → Further (λ M. RestGoes u below m a st V M) H
-  instead-from below m c st G H t a K V goes less = let o = monotone (context_above u below m st) a K t.ends V less goes in t.instead a V o.0 o.1 o.2
+  instead-from below m c st G H t a K V goes less = let o = goes-from-more (context_above u below m st) a K t.ends V less goes in t.instead a V o.0 o.1 o.2
 
   -- ---------- a branch that goes on ----------
   pub settled-goes : (below : List ℕ) (b : Branch) (vs : List Held) (c : Code) (st : List (Frame Held)) (H : Vars) → RestGoes u below b.own.routine c st (valued vs) H → Further (λ L. TreeGoes u below (Leaf (settled (core u) b vs c st)) L) H
@@ -165,7 +165,7 @@ module _ (u : UnitCode) where
   -- ---------- simple statements ----------
   -- what is assigned is a variable of the method
   pub assigned-there : (below : List ℕ) (m : ℕ) (at : Span) (i : Instruction) (rest : Code) (st : List (Frame Held)) (G H : Vars) (vs : List Held) → length (context_of u m).vars ≡ length vs → Top below m (Do at i rest) st G H → (x : ℕ) → assigns i x ≡ true → x < length vs
-  assigned-there below m at i rest st G H vs even t x e = let less : x < length (context_of u m).vars = known_in (context_above u below m st) (Simple i) G t.goes.0 x (assigns-stand i x e) in omega (arith, less, even)
+  assigned-there below m at i rest st G H vs even t x e = let less : x < length (context_of u m).vars = part-known (context_above u below m st) (Simple i) G t.goes.0 x (assigns-stand i x e) in omega (arith, less, even)
 
   -- the rest of a code behind a simple statement goes on from what has a value after it
   pub do-goes : (below : List ℕ) (m : ℕ) (at : Span) (i : Instruction) (rest : Code) (st : List (Frame Held)) (G H V : Vars) → RestGoes u below m (Do at i rest) st G H → IsWithin (after i G) V → Further (λ M. RestGoes u below m rest st V M) H
@@ -218,7 +218,7 @@ module _ (u : UnitCode) where
 
       in_loop : Further (λ M. RestGoes u below m body (OpenBlock own c ∷ st) G M) H
       in_loop =
-          let o = monotone k body K round.ends G round.part round.body in
+          let o = goes-from-more k body K round.ends G round.part round.body in
           let less : IsWithin K (minus o.0 (those own)) = λ y e. within-minus round.ends o.0 (those own) o.2 y (round.again y e) in
           let r = instead-from below m c st G H t c K (minus o.0 (those own)) (round-again k at x own body rest G t.ends t.goes) less in
           record { ends = r.ends; goes = (o.0, o.1, r.goes); more = r.more }

@@ -18,9 +18,9 @@ use Rattle.perm_rules.specs.Goes.{Goes, hiding, joined, context, first_live, IsA
 use Rattle.perm_rules.specs.Scoping.{has_none, is_scoped}
 use Rattle.perm_rules.proofs.Agree.{agree}
 use Rattle.perm_rules.proofs.Written.{block-touched, written-touched}
-use Rattle.perm_rules.proofs.Fine.{known_code}
-use Rattle.perm_rules.proofs.PartLaws.{applies-none, known_in}
-use Rattle.perm_rules.proofs.Effects.{monotone}
+use Rattle.perm_rules.proofs.Fine.{mentioned-known}
+use Rattle.perm_rules.proofs.PartLaws.{applies-none, part-known}
+use Rattle.perm_rules.proofs.Effects.{goes-from-more}
 use Rattle.perm_meaning.specs.Values.{Value, Reference}
 use Rattle.perm_meaning.specs.Names.{Name}
 use Rattle.perm_meaning.specs.Expressions.{tagged, assign, assign_into, clear, clear_all}
@@ -136,7 +136,7 @@ module _ (u : UnitCode) where
       callee : (K : Vars) × Goes (hiding [] (context_of u n)) r.code (valued (first_vars tagged r this found)) K
       callee =
           let d = derived u u.routines n r accepted is.here in
-          let o = monotone (context u r) r.code (first_live r) d.0 (valued (first_vars tagged r this found)) entered d.1 in
+          let o = goes-from-more (context u r) r.code (first_live r) d.0 (valued (first_vars tagged r this found)) entered d.1 in
           (o.0, subst (λ (q : Option Routine). Goes (hiding [] (context_if u q)) r.code (valued (first_vars tagged r this found)) o.0) (sym is.here) o.1)
 
   -- the result comes back
@@ -215,7 +215,7 @@ module _ (u : UnitCode) where
       rest_has y e = let p = and_parts (U y) (not (those hides y)) e in only-has (λ y. not (those hides y)) vs y (together (not (those hides y)) (U y) p.1 p.0)
 
       inside : (L : Vars) × Goes (hiding hides k) body V L
-      inside = let o = monotone (hiding hides k) body (minus U (those hides)) fewer.ends V rest_has fewer.goes in (o.0, o.1)
+      inside = let o = goes-from-more (hiding hides k) body (minus U (those hides)) fewer.ends V rest_has fewer.goes in (o.0, o.1)
 
       -- what is live at the block's end is live without the hidden ones, or is laid by
       enough : IsWithin (minus K (those own)) (plus (minus inside.0 (those own)) (valued saved))
@@ -237,7 +237,7 @@ module _ (u : UnitCode) where
           pick (inr made) off = stays (inr made) off
 
       behind : (L : Vars) × Goes k rest (plus (minus inside.0 (those own)) (valued saved)) L × IsWithin t.ends L
-      behind = monotone k rest (minus K (those own)) t.ends (plus (minus inside.0 (those own)) (valued saved)) enough t.goes.3
+      behind = goes-from-more k rest (minus K (those own)) t.ends (plus (minus inside.0 (those own)) (valued saved)) enough t.goes.3
 
   pub give-goes : (below : List ℕ) (m : ℕ) (at : Span) (y x : ℕ) (own hides : List ℕ) (saved : List Held) (rest : Code) (st : List (Frame Held)) (vs : List Held) (v : Held) (a : Value Name) (H : Vars) → v ≡ Some a
       → length (context_of u m).vars ≡ length vs → length (context_of u m).vars ≡ length saved → none_valued (hides ++ hidden_above below st) vs ≡ true → only_valued hides saved ≡ true
@@ -260,7 +260,7 @@ module _ (u : UnitCode) where
 
       there : x < length either
       there =
-          let known : x < length (context_of u m).vars = known_in (context_above u below m (OpenRecover own hides saved rest ∷ st)) (Given y x) U goes.1.0 x (or_right (nat_eq x y) (nat_eq x x) (eq_itself x)) in
+          let known : x < length (context_of u m).vars = part-known (context_above u below m (OpenRecover own hides saved rest ∷ st)) (Given y x) U goes.1.0 x (or_right (nat_eq x y) (nat_eq x x) (eq_itself x)) in
           let l = either-length (those hides) saved ws lengths in
           omega (arith, known, l, even_saved)
 
@@ -290,7 +290,7 @@ module _ (u : UnitCode) where
   side-goes k own a vs A goes none_own c scoped =
       let D : Vars = minus (valued vs) (mentioned a) in
       let o = goes-fewer k a (valued vs) A D (side-free c a (valued vs) scoped) goes in
-      let r = monotone k a (minus (valued vs) D) o.ends (valued (only tagged (block_mentions own a) vs)) given o.goes in
+      let r = goes-from-more k a (minus (valued vs) D) o.ends (valued (only tagged (block_mentions own a) vs)) given o.goes in
       (r.0, r.1)
     where
       given : IsWithin (minus (valued vs) (minus (valued vs) (mentioned a))) (valued (only tagged (block_mentions own a) vs))
@@ -314,7 +314,7 @@ module _ (u : UnitCode) where
   -- what one block writes doesn't stand in the other
   shared : (k : Context) (own1 : List ℕ) (a : Code) (own2 : List ℕ) (d : Code) (G B : Vars) → IsAllowed k (par_head k own1 a own2 d) G → Goes k d G B → (x : ℕ) → block_writes own1 a x ≡ true → block_mentions own2 d x ≡ true → ⊥
   shared k own1 a own2 d G B allowed goes x w m =
-      let known : x < length k.vars = known_code k d G ((agree k d G).fine B goes) x (and_parts (mentioned d x) (not (those own2 x)) m).0 in
+      let known : x < length k.vars = mentioned-known k d G ((agree k d G).fine B goes) x (and_parts (mentioned d x) (not (those own2 x)) m).0 in
       let apart = or_parts (some_var k (meet (touches k own1 a) (uses k own2 d))) _ (applies-none k (par_head k own1 a own2 d) G allowed ParShared) in
       let none : meet (touches k own1 a) (uses k own2 d) x ≡ false = nothing-below (length k.vars) (meet (touches k own1 a) (uses k own2 d)) x known apart.0 in
       let inside : below (length k.vars) x ≡ true = below-less (length k.vars) x known in
@@ -467,7 +467,7 @@ module _ (u : UnitCode) where
           by_right (inr r) is = by_left r (test (back_l u m p x)) is
 
       behind : (L : Vars) × Goes k rest live L × IsWithin top_on.ends L
-      behind = monotone k rest (joined U A' B') top_on.ends live enough top_on.goes.5
+      behind = goes-from-more k rest (joined U A' B') top_on.ends live enough top_on.goes.5
 
   -- both sides have gone well: what comes back has what is live after the join
   pub merged-has : (m : ℕ) (p : Blocks) (vs ls rs : List Held) → length ls ≡ length vs → length rs ≡ length vs → IsWithin (live_joined u m p (valued vs) (valued ls) (valued rs)) (valued (merged (back_l u m p) (back_r u m p) vs ls rs))

@@ -33,15 +33,15 @@ four-within (suc (suc (suc zero))) h = refl
 four-within (suc (suc (suc (suc x)))) h = cc
 
 -- nothing past the four is live
-past_four : (x : ℕ) → begun (suc (suc (suc (suc x)))) ≡ true → false ≡ true
-past_four x h = rw (ne_eqb (suc (suc (suc (suc x)))) 2 (λ e. omega arith), ne_eqb (suc (suc (suc (suc x)))) 3 (λ e. omega arith)) at h
+past-four : (x : ℕ) → begun (suc (suc (suc (suc x)))) ≡ true → false ≡ true
+past-four x h = rw (ne_eqb (suc (suc (suc (suc x)))) 2 (λ e. omega arith), ne_eqb (suc (suc (suc (suc x)))) 3 (λ e. omega arith)) at h
 
 within-four : IsWithin begun (below 4)
 within-four zero h = refl
 within-four (suc zero) h = refl
 within-four (suc (suc zero)) h = refl
 within-four (suc (suc (suc zero))) h = refl
-within-four (suc (suc (suc (suc x)))) h = past_four x h
+within-four (suc (suc (suc (suc x)))) h = past-four x h
 
 -- ---------- a loop that loses nothing ----------
 -- `immutable Box f = consume b; b = new Box(); i = i + 1;`
@@ -107,20 +107,20 @@ without_b-again (suc (suc (suc zero))) h = refl
 without_b-again (suc (suc (suc (suc x)))) h = cc
 
 -- the body ends without b, whatever it begins with
-b_is_out : (L : Vars) (live : Bool) → L 2 ≡ live → closing (lost L) 2 ≡ false
-b_is_out L true e = rw e refl
-b_is_out L false e = rw e refl
+b-is-out : (L : Vars) (live : Bool) → L 2 ≡ live → closing (lost L) 2 ≡ false
+b-is-out L true e = rw e refl
+b-is-out L false e = rw e refl
 
-no_b : (L ends : Vars) → ends ≡ lost L → closing ends 2 ≡ true → false ≡ true
-no_b L ends e h = sym (b_is_out L (L 2) refl) ∙ (sym (ap (λ G. closing G 2) e) ∙ h)
+no-b : (L ends : Vars) → ends ≡ lost L → closing ends 2 ≡ true → false ≡ true
+no-b L ends e h = sym (b-is-out L (L 2) refl) ∙ (sym (ap (λ G. closing G 2) e) ∙ h)
 
 -- a set with b would come back without it
 without_b-greatest : (L ends : Vars) → IsWithin L begun → ends ≡ lost L → IsWithin L (closing ends) → IsWithin L without_b
 without_b-greatest L ends part e again zero h = refl
 without_b-greatest L ends part e again (suc zero) h = refl
-without_b-greatest L ends part e again (suc (suc zero)) h = no_b L ends e (again 2 h)
+without_b-greatest L ends part e again (suc (suc zero)) h = no-b L ends e (again 2 h)
 without_b-greatest L ends part e again (suc (suc (suc zero))) h = refl
-without_b-greatest L ends part e again (suc (suc (suc (suc x)))) h = cc (past_four x (part (suc (suc (suc (suc x)))) h))
+without_b-greatest L ends part e again (suc (suc (suc (suc x)))) h = cc (past-four x (part (suc (suc (suc (suc x)))) h))
 
 -- the greatest set is what is live where the loop begins, without b
 losing-derived : IsAccepted (code_of (unit losing))

@@ -35,16 +35,16 @@ abbrev flow : Tables → ℕ → ℕ → Vars → Flow
 flow u m at G = flow_if u m at (slice_get u.program.stmts at) G
 
 -- `w.other = r;` within a recover block that hides r
-field_of_hidden : flow (unit p6) 0 3 (below 6) ≡ StopsAt Hidden
-field_of_hidden = refl
+hidden-field-refused : flow (unit p6) 0 3 (below 6) ≡ StopsAt Hidden
+hidden-field-refused = refl
 
 -- `readable Box r = consume a;` makes variable 3 live, and variable 2 no longer
 consumes : flow (unit p6) 0 1 (below 3) ≡ GoesTo (true ∷ true ∷ false ∷ true ∷ false ∷ false ∷ [])
 consumes = refl
 
 -- the same from a set without variable 2
-consumes_gone : flow (unit p6) 0 1 (below 2) ≡ StopsAt Gone
-consumes_gone = refl
+consumes-gone : flow (unit p6) 0 1 (below 2) ≡ StopsAt Gone
+consumes-gone = refl
 
 abbrev mode : Tables → ℕ → List ℕ → List ℕ → Result ParMode TypeKind
 mode u m a b = par_mode_of u m (record { stmts = a }) (record { stmts = b })
@@ -58,8 +58,8 @@ numbers-shared : mode (unit p11_shared) 0 (2 ∷ []) (3 ∷ []) ≡ Err ParShare
 numbers-shared = refl
 
 -- `got = d.Bump();`, which lends d, beside `this.mark = 5;`
-lends-left_alone : mode (unit p4) 1 (6 ∷ []) (7 ∷ []) ≡ Ok LeftAlone
-lends-left_alone = refl
+lends-left-alone : mode (unit p4) 1 (6 ∷ []) (7 ∷ []) ≡ Ok LeftAlone
+lends-left-alone = refl
 
 -- `this.mark = 4;` beside `this.mark = 5;`
 marks-permission : mode (unit p4_both) 1 (6 ∷ []) (7 ∷ []) ≡ Err ParPermission

@@ -147,11 +147,11 @@ all-within vars lo from to hi ws low more all y v here = pick (all y v here)
 known-there : (i : Ident) (w : VarInfo) → is_known_as i w ≡ true → (vars : List VarInfo) (z : ℕ) → slice_get vars z ≡ Some w → (v : VarInfo) × (slice_get vars (var_place vars i) ≡ Some v)
 known-there i w known [] z at = absurd (let no : ⊥ = cc at in no)
 known-there i w known (u ∷ us) zero at = let same : u ≡ w = cc at in let e : is_known_as i u ≡ true = subst (λ (t : VarInfo). is_known_as i t ≡ true) (sym same) known in (u, rw e refl)
-known-there i w known (u ∷ us) (suc z) at = by_test (is_known_as i u) refl (known-there i w known us z at)
+known-there i w known (u ∷ us) (suc z) at = by-test (is_known_as i u) refl (known-there i w known us z at)
   where
-    by_test : (b : Bool) → is_known_as i u ≡ b → (v : VarInfo) × (slice_get us (var_place us i) ≡ Some v) → (v : VarInfo) × (slice_get (u ∷ us) (var_place (u ∷ us) i) ≡ Some v)
-    by_test true e later = (u, rw e refl)
-    by_test false e (v, here) = let next : suc (var_place us i) ≡ 1 + var_place us i = omega arith in (v, rw e (subst (λ n. slice_get (u ∷ us) n ≡ Some v) next here))
+    by-test : (b : Bool) → is_known_as i u ≡ b → (v : VarInfo) × (slice_get us (var_place us i) ≡ Some v) → (v : VarInfo) × (slice_get (u ∷ us) (var_place (u ∷ us) i) ≡ Some v)
+    by-test true e later = (u, rw e refl)
+    by-test false e (v, here) = let next : suc (var_place us i) ≡ 1 + var_place us i = omega arith in (v, rw e (subst (λ n. slice_get (u ∷ us) n ≡ Some v) next here))
 
 -- ---------- where scopes begin ----------
 module _ (vars : List VarInfo) where
@@ -191,7 +191,7 @@ module _ (vars : List VarInfo) where
   -- no variable is in a set whose scopes begin before the place
   pub begun-none : (lo : ℕ) (U : Vars) (xs : List ℕ) → AllBegin lo U → AreBegun lo xs → has_none U xs ≡ true
   begun-none lo U [] low all = refl
-  begun-none lo U (x ∷ xs) low all = by_test (U x) refl (begun-none lo U xs low (λ y e. all y (or_right (nat_eq y x) (those xs y) e)))
+  begun-none lo U (x ∷ xs) low all = by-test (U x) refl (begun-none lo U xs low (λ y e. all y (or_right (nat_eq y x) (those xs y) e)))
     where
       clash : U x ≡ true → IsBegun lo x → ⊥
       clash e (v, here, begins) = let less : v.scope.start < lo = low x e v here in omega arith
@@ -199,9 +199,9 @@ module _ (vars : List VarInfo) where
       listed : those (x ∷ xs) x ≡ true
       listed = rw (eq-eqb x x refl) refl
 
-      by_test : (b : Bool) → U x ≡ b → has_none U xs ≡ true → has_none U (x ∷ xs) ≡ true
-      by_test true e later = absurd (clash e (all x listed))
-      by_test false e later = rw e later
+      by-test : (b : Bool) → U x ≡ b → has_none U xs ≡ true → has_none U (x ∷ xs) ≡ true
+      by-test true e later = absurd (clash e (all x listed))
+      by-test false e later = rw e later
 
   -- the name of a declaration means the variable that it declares, which is there
   pub declared-begun : (lo end : ℕ) (d : FieldDecl) → (y : ℕ) × (slice_get vars y ≡ Some (known_until end d)) → d.name.span.start < end → AreApart vars → lo ≤ d.name.span.start → IsBegun lo (var_place vars d.name)
@@ -279,7 +279,7 @@ tied-listed at n (v ∷ vs) (suc x) tied before =
 -- what is listed is declared before the place
 tied-before : (at n : ℕ) (vars : List VarInfo) (x : ℕ) → those (tied_before at n vars) x ≡ true → (y : ℕ) × (v : VarInfo) × (x ≡ n + y) × (slice_get vars y ≡ Some v) × (v.declared.start < at)
 tied-before at n [] x e = absurd (let no : ⊥ = cc e in no)
-tied-before at n (v ∷ vs) x e = by_test (nat_lt v.declared.start at) (is_tied v.ty) refl e (λ q. tied-before at (suc n) vs x q)
+tied-before at n (v ∷ vs) x e = by-test (nat_lt v.declared.start at) (is_tied v.ty) refl e (λ q. tied-before at (suc n) vs x q)
   where
     Found : Type 0
     Found = (y : ℕ) × (w : VarInfo) × (x ≡ n + y) × (slice_get (v ∷ vs) y ≡ Some w) × (w.declared.start < at)
@@ -287,15 +287,15 @@ tied-before at n (v ∷ vs) x e = by_test (nat_lt v.declared.start at) (is_tied 
     next : (y : ℕ) × (w : VarInfo) × (x ≡ suc n + y) × (slice_get vs y ≡ Some w) × (w.declared.start < at) → Found
     next (y, w, i, here, less) = (suc y, w, omega (arith, i), here, less)
 
-    by_test : (s t : Bool) → nat_lt v.declared.start at ≡ s → those (listed_if (s && t) n (tied_before at (suc n) vs)) x ≡ true
+    by-test : (s t : Bool) → nat_lt v.declared.start at ≡ s → those (listed_if (s && t) n (tied_before at (suc n) vs)) x ≡ true
         → (those (tied_before at (suc n) vs) x ≡ true → (y : ℕ) × (w : VarInfo) × (x ≡ suc n + y) × (slice_get vs y ≡ Some w) × (w.declared.start < at)) → Found
-    by_test true true p q later = pick (or_cases (nat_eq x n) (those (tied_before at (suc n) vs) x) q)
+    by-test true true p q later = pick (or_cases (nat_eq x n) (those (tied_before at (suc n) vs) x) q)
       where
         pick : (nat_eq x n ≡ true) ⊎ (those (tied_before at (suc n) vs) x ≡ true) → Found
         pick (inl i) = let same : x ≡ n = eqb-true x n i in (zero, v, omega (arith, same), refl, ltb-true v.declared.start at p)
         pick (inr i) = next (later i)
-    by_test true false p q later = next (later q)
-    by_test false t p q later = next (later q)
+    by-test true false p q later = next (later q)
+    by-test false t p q later = next (later q)
 
 module _ (vars : List VarInfo) (from at : ℕ) (early : AllEarly from vars) where
   -- the scope of what is hidden begins before the place

@@ -102,9 +102,9 @@ module _ (earlier : Earlier) where
               (record {
                 room = omega arith;
                 rise = later.rise;
-                rows = λ end last. all_rows end last named told.rows (later.rows end last) room on;
+                rows = λ end last. all-rows end last named told.rows (later.rows end last) room on;
                 tells = λ end last had whole. walk end last named told.rows (later.rows end last) room on had whole (told.walk end (omega arith)) (later.tells end last);
-                known = λ end last x v here at past. own_known end last named told.rows on x v here (later.known end last x v here) at past;
+                known = λ end last x v here at past. own-known end last named told.rows on x v here (later.known end last x v here) at past;
               })
             where
               hi : ℕ
@@ -113,14 +113,14 @@ module _ (earlier : Earlier) where
               others : ℕ → List VarInfo
               others end = block_vars stmts inner end is
 
-              all_rows : (end : ℕ) → hi ≤ end → AllNamed lo mid ds → Rows lo mid mid ws → Rows mid hi end (others end) → lo ≤ mid → mid ≤ hi → Rows lo hi end (map (known_until end) ds ++ (ws ++ others end))
-              all_rows end last named rows behind room on =
+              all-rows : (end : ℕ) → hi ≤ end → AllNamed lo mid ds → Rows lo mid mid ws → Rows mid hi end (others end) → lo ≤ mid → mid ≤ hi → Rows lo hi end (map (known_until end) ds ++ (ws ++ others end))
+              all-rows end last named rows behind room on =
                   rows-append lo hi end (map (known_until end) ds) (ws ++ others end) (rows-more lo lo mid hi end end (map (known_until end) ds) (le_refl lo) on (le_refl end) (named-rows lo mid end ds named))
                   (rows-append lo hi end ws (others end) (rows-more lo lo mid hi mid end ws (le_refl lo) on (omega arith) rows) (rows-more lo mid hi hi end end (others end) room (le_refl hi) (le_refl end) behind))
 
-              own_known : (end : ℕ) → hi ≤ end → AllNamed lo mid ds → Rows lo mid mid ws → mid ≤ hi → (x : ℕ) (v : VarInfo) → slice_get vars x ≡ Some v → (IsAmong v (others end) → hi < v.scope.end → those (own_vars k is) x ≡ true)
+              own-known : (end : ℕ) → hi ≤ end → AllNamed lo mid ds → Rows lo mid mid ws → mid ≤ hi → (x : ℕ) (v : VarInfo) → slice_get vars x ≡ Some v → (IsAmong v (others end) → hi < v.scope.end → those (own_vars k is) x ≡ true)
                   → IsAmong v (map (known_until end) ds ++ (ws ++ others end)) → hi < v.scope.end → those (map (λ d. var_at k d.name) ds ++ own_vars k is) x ≡ true
-              own_known end last named rows on x v here later at past = pick (among-append v (map (known_until end) ds) (ws ++ others end) at)
+              own-known end last named rows on x v here later at past = pick (among-append v (map (known_until end) ds) (ws ++ others end) at)
                 where
                   front : List ℕ
                   front = map (λ d. var_at k d.name) ds

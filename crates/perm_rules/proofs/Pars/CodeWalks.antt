@@ -301,16 +301,16 @@ module _ (vars : List VarInfo) (c : Context) where
   -- what is written in a block and isn't its own is written outside it
   own-splits : (lo hi : ℕ) (own : List ℕ) (a : Code) → ((x : ℕ) → touched a x ≡ true → InOrIn vars lo hi (written a) x) → ((x : ℕ) → those own x ≡ true → LiesIn vars lo hi x)
       → (x : ℕ) → plus (touched a) (those own) x ≡ true → InOrIn vars lo hi (block_writes own a) x
-  own-splits lo hi own a split lies x e = by_own (those own x) refl (or_cases (touched a x) (those own x) e)
+  own-splits lo hi own a split lies x e = by-own (those own x) refl (or_cases (touched a x) (those own x) e)
     where
       outside : those own x ≡ false → InOrIn vars lo hi (written a) x → InOrIn vars lo hi (block_writes own a) x
       outside q (inl w) = inl (rw (w, q) refl)
       outside q (inr is) = inr is
 
-      by_own : (o : Bool) → those own x ≡ o → (touched a x ≡ true) ⊎ (those own x ≡ true) → InOrIn vars lo hi (block_writes own a) x
-      by_own true q either = inr (lies x q)
-      by_own false q (inl t) = outside q (split x t)
-      by_own false q (inr o) = inr (lies x o)
+      by-own : (o : Bool) → those own x ≡ o → (touched a x ≡ true) ⊎ (those own x ≡ true) → InOrIn vars lo hi (block_writes own a) x
+      by-own true q either = inr (lies x q)
+      by-own false q (inl t) = outside q (split x t)
+      by-own false q (inr o) = inr (lies x o)
 
   -- a block in braces
   pub encloses-end : (lo hi : ℕ) (own : List ℕ) (f : Code → Code) → Walks vars c lo hi hi f → ((x : ℕ) → those own x ≡ true → LiesIn vars lo hi x) → AreBegun vars lo own → Encloses vars c lo hi own (f End)

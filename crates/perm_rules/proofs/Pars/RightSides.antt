@@ -87,14 +87,14 @@ module _ (earlier : Earlier) where
 
   read-told : (lo from : ℕ) (s : Stmt) (x : ℕ) (y f : Ident) (rest : List Mark) → lo ≤ from → Meets vars lo from x → IsRising from (names y ∷ names f ∷ ends s.span.end ∷ rest) → (b : Bool)
       → RhsTold lo from rest s [] (Do s.span (cond b (LoadLength x (var_at k y)) (LoadField x (var_at k y) (field_at k y f))))
-  read-told lo from s x y f rest low meets rise b = by_test b
+  read-told lo from s x y f rest low meets rise b = by-test b
     where
       stands : Stands vars from (ends s.span.end ∷ rest) (just (var_at k y))
       stands = stands-past vars from f (ends s.span.end ∷ rest) (just (var_at k y)) (stands-name vars from y (names f ∷ ends s.span.end ∷ rest) rise)
 
-      by_test : (b : Bool) → RhsTold lo from rest s [] (Do s.span (cond b (LoadLength x (var_at k y)) (LoadField x (var_at k y) (field_at k y f))))
-      by_test true = plain-told lo from s x (LoadLength x (var_at k y)) (just (var_at k y)) rest low meets stands (λ z e. e) (λ z e. e)
-      by_test false = plain-told lo from s x (LoadField x (var_at k y) (field_at k y f)) (just (var_at k y)) rest low meets stands (λ z e. e) (λ z e. e)
+      by-test : (b : Bool) → RhsTold lo from rest s [] (Do s.span (cond b (LoadLength x (var_at k y)) (LoadField x (var_at k y) (field_at k y f))))
+      by-test true = plain-told lo from s x (LoadLength x (var_at k y)) (just (var_at k y)) rest low meets stands (λ z e. e) (λ z e. e)
+      by-test false = plain-told lo from s x (LoadField x (var_at k y) (field_at k y f)) (just (var_at k y)) rest low meets stands (λ z e. e) (λ z e. e)
 
   pub rhs-told : (count lo from : ℕ) (s : Stmt) (x : ℕ) (r : Rhs) (rest : List Mark) → base ≤ lo → lo ≤ from → Meets vars lo from x → RhsPlaced count n r → IsRising from (rhs_marks exprs ms s.head.end r (ends s.span.end ∷ rest))
       → RhsTold lo from rest s (rhs_vars stmts inner r) (assignment k fs s x r)
@@ -162,9 +162,9 @@ module _ (earlier : Earlier) where
               assigned : (z : ℕ) → just x z ≡ true → Meets vars lo give.end z
               assigned z e = subst (Meets vars lo give.end) (sym (eqb-true z x e)) (meets-more vars lo from lo give.end x (omega arith) (omega arith) meets)
 
-              given_or : (z : ℕ) → (just (var_at k w) z ≡ true) ⊎ (just x z ≡ true) → Meets vars lo give.end z
-              given_or z (inl e) = subst (Meets vars lo give.end) (sym (eqb-true z (var_at k w) e)) (named-meets vars lo give.end w (omega arith) (omega arith))
-              given_or z (inr e) = assigned z e
+              given-or : (z : ℕ) → (just (var_at k w) z ≡ true) ⊎ (just x z ≡ true) → Meets vars lo give.end z
+              given-or z (inl e) = subst (Meets vars lo give.end) (sym (eqb-true z (var_at k w) e)) (named-meets vars lo give.end w (omega arith) (omega arith))
+              given-or z (inr e) = assigned z e
 
               -- the variable that takes the value begins before the head's end
               target : (z : ℕ) → just x z ≡ true → Begins vars at z
@@ -172,17 +172,17 @@ module _ (earlier : Earlier) where
 
               -- so does the one that is given, or it is the block's own
               gift : Begins vars at (var_at k w) ⊎ (those own (var_at k w) ≡ true)
-              gift = by_option (slice_get vars (var_at k w)) refl
+              gift = by-option (slice_get vars (var_at k w)) refl
                 where
-                  by_place : (v : VarInfo) → slice_get vars (var_at k w) ≡ Some v → (v.scope.start < suc w.span.start) × (w.span.start < v.scope.end) → (v.scope.start < from) ⊎ ((s.span.end ≤ v.scope.start) ⊎ IsAmong v ws)
+                  by-place : (v : VarInfo) → slice_get vars (var_at k w) ≡ Some v → (v.scope.start < suc w.span.start) × (w.span.start < v.scope.end) → (v.scope.start < from) ⊎ ((s.span.end ≤ v.scope.start) ⊎ IsAmong v ws)
                       → (v.scope.start < at) ⊎ (those own (var_at k w) ≡ true)
-                  by_place v here scope (inl before) = inl (omega arith)
-                  by_place v here scope (inr (inl past)) = let begins : v.scope.start < suc w.span.start = scope.0 in absurd (omega arith)
-                  by_place v here scope (inr (inr i)) = let ends : w.span.start < v.scope.end = scope.1 in inr (known (var_at k w) v here i (omega arith))
+                  by-place v here scope (inl before) = inl (omega arith)
+                  by-place v here scope (inr (inl past)) = let begins : v.scope.start < suc w.span.start = scope.0 in absurd (omega arith)
+                  by-place v here scope (inr (inr i)) = let ends : w.span.start < v.scope.end = scope.1 in inr (known (var_at k w) v here i (omega arith))
 
-                  by_option : (o : Option VarInfo) → slice_get vars (var_at k w) ≡ o → Begins vars at (var_at k w) ⊎ (those own (var_at k w) ≡ true)
-                  by_option None q = inl (λ v here. absurd (let no : ⊥ = cc (q, here) in no))
-                  by_option (Some v) q = same (by_place v q (scope v q) (whole (var_at k w) v q))
+                  by-option : (o : Option VarInfo) → slice_get vars (var_at k w) ≡ o → Begins vars at (var_at k w) ⊎ (those own (var_at k w) ≡ true)
+                  by-option None q = inl (λ v here. absurd (let no : ⊥ = cc (q, here) in no))
+                  by-option (Some v) q = same (by-place v q (scope v q) (whole (var_at k w) v q))
                     where
                       scope : (v : VarInfo) → slice_get vars (var_at k w) ≡ Some v → (v.scope.start < suc w.span.start) × (w.span.start < v.scope.end)
                       scope v here =
@@ -195,12 +195,12 @@ module _ (earlier : Earlier) where
                       same (inl less) = inl (λ z here. let one : v ≡ z = cc (q, here) in subst (λ (y : VarInfo). y.scope.start < at) one less)
                       same (inr o) = inr o
 
-              ends_with : (z : ℕ) → (just (var_at k w) z ≡ true) ⊎ (just x z ≡ true) → Begins vars at z ⊎ (those own z ≡ true)
-              ends_with z (inl e) = subst (λ y. Begins vars at y ⊎ (those own y ≡ true)) (sym (eqb-true z (var_at k w) e)) gift
-              ends_with z (inr e) = inl (target z e)
+              ends-with : (z : ℕ) → (just (var_at k w) z ≡ true) ⊎ (just x z ≡ true) → Begins vars at z ⊎ (those own z ≡ true)
+              ends-with z (inl e) = subst (λ y. Begins vars at y ⊎ (those own y ≡ true)) (sym (eqb-true z (var_at k w) e)) gift
+              ends-with z (inr e) = inl (target z e)
 
               outer : AllBegin vars at (block_mentions own body)
-              outer = outer-begins facts at own (sequence fs b.stmts) (Give give (var_at k w) x) (λ z e. ends_with z (or_cases (just (var_at k w) z) (just x z) e)) t.opens
+              outer = outer-begins facts at own (sequence fs b.stmts) (Give give (var_at k w) x) (λ z e. ends-with z (or_cases (just (var_at k w) z) (just x z) e)) t.opens
 
               recovers : Recovers vars c at x own (tied_before s.head.end 0 k.vars) body
               recovers = record {
@@ -216,7 +216,7 @@ module _ (earlier : Earlier) where
               walked =
                   let block = encloses-give vars c lo give.end own (sequence fs b.stmts) give (var_at k w) x
                   (walks-more vars c lo at last give.end give.end (sequence fs b.stmts) (omega arith) (omega arith) t.walks)
-                  (λ z e. given_or z (or_cases (just (var_at k w) z) (just x z) e))
+                  (λ z e. given-or z (or_cases (just (var_at k w) z) (just x z) e))
                   (λ z e. lies-more vars at give.end lo give.end z (omega arith) (omega arith) (t.lies z e))
                   (begun-more vars lo at own (omega arith) t.fresh) in
                   walks-more vars c lo lo give.end s.span.end end f (omega arith) at_end

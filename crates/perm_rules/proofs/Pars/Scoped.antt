@@ -31,11 +31,11 @@ lies-more vars lo hi from end x less more lies v here =
 -- the variable that a name means is known where the name stands
 pub known-found : (i : Ident) (vars : List VarInfo) (v : VarInfo) → slice_get vars (var_place vars i) ≡ Some v → is_known_as i v ≡ true
 known-found i [] v here = absurd (let no : ⊥ = cc here in no)
-known-found i (w ∷ ws) v here = by_test (is_known_as i w) refl here (λ q. known-found i ws v q)
+known-found i (w ∷ ws) v here = by-test (is_known_as i w) refl here (λ q. known-found i ws v q)
   where
-    by_test : (b : Bool) → is_known_as i w ≡ b → slice_get (w ∷ ws) (cond (not b) (1 + var_place ws i) 0) ≡ Some v → (slice_get ws (var_place ws i) ≡ Some v → is_known_as i v ≡ true) → is_known_as i v ≡ true
-    by_test true e q later = let same : w ≡ v = cc q in subst (λ (t : VarInfo). is_known_as i t ≡ true) same e
-    by_test false e q later =
+    by-test : (b : Bool) → is_known_as i w ≡ b → slice_get (w ∷ ws) (cond (not b) (1 + var_place ws i) 0) ≡ Some v → (slice_get ws (var_place ws i) ≡ Some v → is_known_as i v ≡ true) → is_known_as i v ≡ true
+    by-test true e q later = let same : w ≡ v = cc q in subst (λ (t : VarInfo). is_known_as i t ≡ true) same e
+    by-test false e q later =
         let next : 1 + var_place ws i ≡ suc (var_place ws i) = omega arith in
         later (subst (λ n. slice_get (w ∷ ws) n ≡ Some v) next q)
 

@@ -72,9 +72,9 @@ module _ (facts : MethodFacts) where
           listed (inl d) = inr (declared-listed vars lo hi end ds last named facts.apart x v here d)
           listed (inr w) = absurd (late (behind v w))
 
-      by_option : (o : Option VarInfo) → slice_get vars x ≡ o → Begins vars low x → Begins vars lo x ⊎ (those own x ≡ true)
-      by_option None q begins = inl (λ v here. absurd (let no : ⊥ = cc (q, here) in no))
-      by_option (Some v) q begins = same (found v q (begins v q) (all x v q))
+      by-option : (o : Option VarInfo) → slice_get vars x ≡ o → Begins vars low x → Begins vars lo x ⊎ (those own x ≡ true)
+      by-option None q begins = inl (λ v here. absurd (let no : ⊥ = cc (q, here) in no))
+      by-option (Some v) q begins = same (found v q (begins v q) (all x v q))
         where
           same : (v.scope.start < lo) ⊎ (those own x ≡ true) → Begins vars lo x ⊎ (those own x ≡ true)
           same (inl less) = inl (λ w here. let one : v ≡ w = cc (q, here) in subst (λ (z : VarInfo). z.scope.start < lo) one less)
@@ -82,7 +82,7 @@ module _ (facts : MethodFacts) where
 
       pick : (mentioned rest x ≡ true) ⊎ Begins vars low x → (mentioned rest x ≡ true) ⊎ (Begins vars lo x ⊎ (those own x ≡ true))
       pick (inl m) = inl m
-      pick (inr begins) = inr (by_option (slice_get vars x) refl begins)
+      pick (inr begins) = inr (by-option (slice_get vars x) refl begins)
 
   -- the same of a code that declares nothing
   pub opens-none : (lo low hi : ℕ) (ws : List VarInfo) (f : Code → Code) → low ≤ hi → ((v : VarInfo) → IsAmong v ws → low ≤ v.scope.start) → AreAll vars lo hi ws → Opens low f → Opens lo f
@@ -158,26 +158,26 @@ module _ (facts : MethodFacts) where
           listed (inl d) = inr (declared-listed vars lo mid end ds last named facts.apart x v here d)
           listed (inr w) = others (among-append v ws vs w)
 
-      by_option : (x : ℕ) (o : Option VarInfo) → slice_get vars x ≡ o → Begins vars mid x → Meets vars mid hi x → Begins vars lo x ⊎ (those own x ≡ true)
-      by_option x None q begins meets = inl (λ v here. absurd (let no : ⊥ = cc (q, here) in no))
-      by_option x (Some v) q begins meets = same (found x v q (begins v q, (meets v q).1) (all x v q))
+      by-option : (x : ℕ) (o : Option VarInfo) → slice_get vars x ≡ o → Begins vars mid x → Meets vars mid hi x → Begins vars lo x ⊎ (those own x ≡ true)
+      by-option x None q begins meets = inl (λ v here. absurd (let no : ⊥ = cc (q, here) in no))
+      by-option x (Some v) q begins meets = same (found x v q (begins v q, (meets v q).1) (all x v q))
         where
           same : (v.scope.start < lo) ⊎ (those own x ≡ true) → Begins vars lo x ⊎ (those own x ≡ true)
           same (inl less) = inl (λ w here. let one : v ≡ w = cc (q, here) in subst (λ (z : VarInfo). z.scope.start < lo) one less)
           same (inr o) = inr o
 
-      both_ways : (rest : Code) (x : ℕ) → (mentioned rest x ≡ true) ⊎ Meets vars mid hi x → (mentioned rest x ≡ true) ⊎ (Begins vars mid x ⊎ (those xs x ≡ true))
+      both-ways : (rest : Code) (x : ℕ) → (mentioned rest x ≡ true) ⊎ Meets vars mid hi x → (mentioned rest x ≡ true) ⊎ (Begins vars mid x ⊎ (those xs x ≡ true))
           → (mentioned rest x ≡ true) ⊎ (Begins vars lo x ⊎ (those (own ++ xs) x ≡ true))
-      both_ways rest x (inl m) other = inl m
-      both_ways rest x (inr meets) (inl m) = inl m
-      both_ways rest x (inr meets) (inr (inl begins)) = inr (widen x (by_option x (slice_get vars x) refl begins meets))
-      both_ways rest x (inr meets) (inr (inr o)) = inr (inr (list_any-append (nat_eq x) own xs ∙ or_right (those own x) (those xs x) o))
+      both-ways rest x (inl m) other = inl m
+      both-ways rest x (inr meets) (inl m) = inl m
+      both-ways rest x (inr meets) (inr (inl begins)) = inr (widen x (by-option x (slice_get vars x) refl begins meets))
+      both-ways rest x (inr meets) (inr (inr o)) = inr (inr (list_any-append (nat_eq x) own xs ∙ or_right (those own x) (those xs x) o))
 
       opening : OpensOwn lo (own ++ xs) (λ code. f (g code))
       opening rest x e = pick (first.opens (g rest) x e)
         where
           pick : (mentioned (g rest) x ≡ true) ⊎ (Begins vars lo x ⊎ (those own x ≡ true)) → (mentioned rest x ≡ true) ⊎ (Begins vars lo x ⊎ (those (own ++ xs) x ≡ true))
-          pick (inl m) = both_ways rest x (second.walks.stands rest x m) (second.opens rest x m)
+          pick (inl m) = both-ways rest x (second.walks.stands rest x m) (second.opens rest x m)
           pick (inr is) = inr (widen x is)
 
   -- what stands in a whole block begins before it, where it isn't the block's own

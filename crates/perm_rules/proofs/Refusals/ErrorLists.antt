@@ -27,16 +27,16 @@ pub error_or-none : (at : Span) (o : Option TypeKind) (later : Option TypeError)
 error_or-none at None later h = (refl, h)
 error_or-none at (Some k) later h = absurd (cc)
 
-pub error_or-pass : (at : Span) (o : Option TypeKind) (later : Option TypeError) → o ≡ None → later ≡ None → error_or at o later ≡ None
-error_or-pass at None later e f = f
-error_or-pass at (Some k) later e f = cc
+pub error_or-both : (at : Span) (o : Option TypeKind) (later : Option TypeError) → o ≡ None → later ≡ None → error_or at o later ≡ None
+error_or-both at None later e f = f
+error_or-both at (Some k) later e f = cc
 
 -- of two lists, one behind the other
-pub append-none : (xs ys : List Entry) → first_error (xs ++ ys) ≡ None → (first_error xs ≡ None) × (first_error ys ≡ None)
-append-none xs ys h = or_later-none (first_error xs) (first_error ys) (sym (first_error-append xs ys) ∙ h)
+pub first_error-none-parts : (xs ys : List Entry) → first_error (xs ++ ys) ≡ None → (first_error xs ≡ None) × (first_error ys ≡ None)
+first_error-none-parts xs ys h = or_later-none (first_error xs) (first_error ys) (sym (first_error-append xs ys) ∙ h)
 
-pub none-append : (xs ys : List Entry) → first_error xs ≡ None → first_error ys ≡ None → first_error (xs ++ ys) ≡ None
-none-append xs ys e f = first_error-append xs ys ∙ or_later-both (first_error xs) (first_error ys) e f
+pub first_error-none-both : (xs ys : List Entry) → first_error xs ≡ None → first_error ys ≡ None → first_error (xs ++ ys) ≡ None
+first_error-none-both xs ys e f = first_error-append xs ys ∙ or_later-both (first_error xs) (first_error ys) e f
 
 -- an entry and what comes behind it
 pub entry-none : (x : Entry) (xs : List Entry) → first_error (x ∷ xs) ≡ None → (refusal x.context x.part x.live ≡ None) × (first_error xs ≡ None)
@@ -47,7 +47,7 @@ pub block-none : (x : Entry) (xs rest : List Entry) → first_error (x ∷ (xs +
     → (refusal x.context x.part x.live ≡ None) × (first_error xs ≡ None) × (first_error rest ≡ None)
 block-none x xs rest h =
     let q = entry-none x (xs ++ rest) h in
-    let r = append-none xs rest q.1 in
+    let r = first_error-none-parts xs rest q.1 in
     (q.0, r.0, r.1)
 
 -- the same with two blocks
@@ -55,5 +55,5 @@ pub blocks-none : (x : Entry) (xs ys rest : List Entry) → first_error (x ∷ (
     → (refusal x.context x.part x.live ≡ None) × (first_error xs ≡ None) × (first_error ys ≡ None) × (first_error rest ≡ None)
 blocks-none x xs ys rest h =
     let q = block-none x xs (ys ++ rest) h in
-    let r = append-none ys rest q.2 in
+    let r = first_error-none-parts ys rest q.2 in
     (q.0, q.1, r.0, r.1)

@@ -26,8 +26,8 @@ use Rattle.perm_rules.proofs.Refusals.ErrorLists.{first_error-append}
 abbrev Agree : Vars → Vars → Vars → Type 0
 Agree U S T = (x : ℕ) → U x ≡ false → S x ≡ T x
 
-both_or : (a b x y : Bool) → a ≡ x → b ≡ y → (a || b) ≡ (x || y)
-both_or a b x y e f = ap (λ (c : Bool). c || b) e ∙ ap (λ (c : Bool). x || c) f
+or-same : (a b x y : Bool) → a ≡ x → b ≡ y → (a || b) ≡ (x || y)
+or-same a b x y e f = ap (λ (c : Bool). c || b) e ∙ ap (λ (c : Bool). x || c) f
 
 module _ (U : Vars) where
   dead-agree : (G H : Vars) → Agree U G H → Agree U (dead G) (dead H)
@@ -44,7 +44,7 @@ module _ (U : Vars) where
   term-agree S T w (Unary op a) h = term-agree S T w a h
   term-agree S T w (Binary op a b) h =
       let u = or_parts (any_in_term U a) (any_in_term U b) h in
-      both_or _ _ _ _ (term-agree S T w a u.0) (term-agree S T w b u.1)
+      or-same _ _ _ _ (term-agree S T w a u.0) (term-agree S T w b u.1)
 
   argument-agree : (S T : Vars) → Agree U S T → (a : Argument) → any_in_argument U a ≡ false → any_in_argument S a ≡ any_in_argument T a
   argument-agree S T w (Expression e) h = term-agree S T w e h
@@ -54,7 +54,7 @@ module _ (U : Vars) where
   arguments_gone-agree [] G H w h = refl
   arguments_gone-agree (a ∷ rest) G H w h =
       let u = or_parts (any_in_argument U a) (list_any (any_in_argument U) rest) h in
-      both_or _ _ _ _ (argument-agree (dead G) (dead H) (dead-agree G H w) a u.0)
+      or-same _ _ _ _ (argument-agree (dead G) (dead H) (dead-agree G H w) a u.0)
       (arguments_gone-agree rest (after_argument a G) (after_argument a H) (minus-agree G H (argument_consumes a) w) u.1)
 
   after_arguments-agree : (args : List Argument) (G H : Vars) → Agree U G H → Agree U (after_arguments args G) (after_arguments args H)
@@ -64,9 +64,9 @@ module _ (U : Vars) where
   call_gone-agree : (consumed : Bool) (y : ℕ) (args : List Argument) (G H : Vars) → Agree U G H → U y ≡ false → list_any (any_in_argument U) args ≡ false
       → call_gone consumed y args G ≡ call_gone consumed y args H
   call_gone-agree true y args G H w u h =
-      both_or _ _ _ _ (dead-agree G H w y u) (arguments_gone-agree args (minus G (just y)) (minus H (just y)) (minus-agree G H (just y) w) h)
+      or-same _ _ _ _ (dead-agree G H w y u) (arguments_gone-agree args (minus G (just y)) (minus H (just y)) (minus-agree G H (just y) w) h)
   call_gone-agree false y args G H w u h =
-      both_or _ _ _ _ (arguments_gone-agree args G H w h) (dead-agree (after_arguments args G) (after_arguments args H) (after_arguments-agree args G H w) y u)
+      or-same _ _ _ _ (arguments_gone-agree args G H w h) (dead-agree (after_arguments args G) (after_arguments args H) (after_arguments-agree args G H w) y u)
 
   part-agree : (p : Part) (G H : Vars) → Agree U G H → any_in_part U p ≡ false → gone p G ≡ gone p H
   part-agree (Simple (Declare x)) G H w h = refl
@@ -75,19 +75,19 @@ module _ (U : Vars) where
   part-agree (Simple (LoadLength x y)) G H w h = dead-agree G H w y (or_parts (U x) (U y) h).1
   part-agree (Simple (LoadItem x y i)) G H w h =
       let u = or_parts (U y) (any_in_term U i) (or_parts (U x) (U y || any_in_term U i) h).1 in
-      both_or _ _ _ _ (term-agree (dead G) (dead H) (dead-agree G H w) i u.1) (dead-agree G H w y u.0)
+      or-same _ _ _ _ (term-agree (dead G) (dead H) (dead-agree G H w) i u.1) (dead-agree G H w y u.0)
   part-agree (Simple (TakeField x y f)) G H w h = dead-agree G H w y (or_parts (U x) (U y) h).1
   part-agree (Simple (NewObject x class)) G H w h = refl
   part-agree (Simple (NewArray x n)) G H w h = term-agree (dead G) (dead H) (dead-agree G H w) n (or_parts (U x) (any_in_term U n) h).1
   part-agree (Simple (StoreField y f a)) G H w h =
       let u = or_parts (U y) (any_in_argument U a) h in
-      both_or _ _ _ _ (argument-agree (dead G) (dead H) (dead-agree G H w) a u.1)
+      or-same _ _ _ _ (argument-agree (dead G) (dead H) (dead-agree G H w) a u.1)
       (dead-agree (after_argument a G) (after_argument a H) (minus-agree G H (argument_consumes a) w) y u.0)
   part-agree (Simple (StoreItem y i e)) G H w h =
       let u = or_parts (U y) (any_in_term U i || any_in_term U e) h in
       let v = or_parts (any_in_term U i) (any_in_term U e) u.1 in
-      both_or _ _ _ _ (term-agree (dead G) (dead H) (dead-agree G H w) i v.0)
-      (both_or _ _ _ _ (term-agree (dead G) (dead H) (dead-agree G H w) e v.1) (dead-agree G H w y u.0))
+      or-same _ _ _ _ (term-agree (dead G) (dead H) (dead-agree G H w) i v.0)
+      (or-same _ _ _ _ (term-agree (dead G) (dead H) (dead-agree G H w) e v.1) (dead-agree G H w y u.0))
   part-agree (Simple (Invoke into tie consumed y routine args)) G H w h =
       let u = or_parts (U y) (list_any (any_in_argument U) args) (or_parts _ (U y || list_any (any_in_argument U) args) h).1 in
       call_gone-agree consumed y args G H w u.0 u.1
@@ -129,28 +129,28 @@ append-known xs ys zs ws e f =
     first_error-append xs ys
     ∙ (ap (λ (r : Option TypeError). or_later r (first_error ys)) e ∙ (ap (λ (r : Option TypeError). or_later (first_error zs) r) f ∙ sym (first_error-append zs ws)))
 
-pub refused_by_known : RefusedByKnown
-refused_by_known c End G H w = refl
-refused_by_known c (Give at v x) G H w = error-known at _ _ None None (refusal-known c (Given v x) G H w) refl
-refused_by_known c (Return at a) G H w = error-known at _ _ None None (refusal-known c (Returned a) G H w) refl
-refused_by_known c (Do at i rest) G H w =
-    error-known at _ _ _ _ (refusal-known c (Simple i) G H w) (refused_by_known c rest _ _ (changed-known c (instruction_effect i) G H w))
-refused_by_known c (If at e own1 a own2 b rest) G H w =
+pub refused-by-known : RefusedByKnown
+refused-by-known c End G H w = refl
+refused-by-known c (Give at v x) G H w = error-known at _ _ None None (refusal-known c (Given v x) G H w) refl
+refused-by-known c (Return at a) G H w = error-known at _ _ None None (refusal-known c (Returned a) G H w) refl
+refused-by-known c (Do at i rest) G H w =
+    error-known at _ _ _ _ (refusal-known c (Simple i) G H w) (refused-by-known c rest _ _ (changed-known c (instruction_effect i) G H w))
+refused-by-known c (If at e own1 a own2 b rest) G H w =
     error-known at _ _ _ _ (refusal-known c (Condition e) G H w)
-    (append-known (entries c a G) _ (entries c a H) _ (refused_by_known c a G H w)
-    (append-known (entries c b G) _ (entries c b H) _ (refused_by_known c b G H w)
-    (refused_by_known c rest _ _ (changed-known c (either (block_effect own1 a) (block_effect own2 b)) G H w))))
-refused_by_known c (While at e own body rest) G H w =
+    (append-known (entries c a G) _ (entries c a H) _ (refused-by-known c a G H w)
+    (append-known (entries c b G) _ (entries c b H) _ (refused-by-known c b G H w)
+    (refused-by-known c rest _ _ (changed-known c (either (block_effect own1 a) (block_effect own2 b)) G H w))))
+refused-by-known c (While at e own body rest) G H w =
     let less = minus-known c (block_effect own body).lost G H w in
     error-known at _ _ _ _ (refusal-known c (Condition e) _ _ less)
-    (append-known (entries c body (minus G (block_effect own body).lost)) _ (entries c body (minus H (block_effect own body).lost)) _ (refused_by_known c body _ _ less)
-    (refused_by_known c rest _ _ less))
-refused_by_known c (Par at own1 a own2 b rest) G H w =
+    (append-known (entries c body (minus G (block_effect own body).lost)) _ (entries c body (minus H (block_effect own body).lost)) _ (refused-by-known c body _ _ less)
+    (refused-by-known c rest _ _ less))
+refused-by-known c (Par at own1 a own2 b rest) G H w =
     error-known at _ _ _ _ (refusal-known c (par_head c own1 a own2 b) G H w)
-    (append-known (entries c a G) _ (entries c a H) _ (refused_by_known c a G H w)
-    (append-known (entries c b G) _ (entries c b H) _ (refused_by_known c b G H w)
-    (refused_by_known c rest _ _ (changed-known c (both (block_effect own1 a) (block_effect own2 b)) G H w))))
-refused_by_known c (Recover at x own hides body rest) G H w =
+    (append-known (entries c a G) _ (entries c a H) _ (refused-by-known c a G H w)
+    (append-known (entries c b G) _ (entries c b H) _ (refused-by-known c b G H w)
+    (refused-by-known c rest _ _ (changed-known c (both (block_effect own1 a) (block_effect own2 b)) G H w))))
+refused-by-known c (Recover at x own hides body rest) G H w =
     error-known at _ _ _ _ (refusal-known c (RecoverHead x) G H w)
-    (append-known (entries (hiding hides c) body G) _ (entries (hiding hides c) body H) _ (refused_by_known (hiding hides c) body G H w)
-    (refused_by_known c rest _ _ (changed-known c (block_effect own body) G H w)))
+    (append-known (entries (hiding hides c) body G) _ (entries (hiding hides c) body H) _ (refused-by-known (hiding hides c) body G H w)
+    (refused-by-known c rest _ _ (changed-known c (block_effect own body) G H w)))

@@ -1,6 +1,6 @@
-use Rattle.perm_rules.proofs.Refusals.KnownOnly.{refused_by_known}
-use Rattle.perm_rules.proofs.Refusals.{goes_unrefused, accepted_unrefused, flow_goes}
+use Rattle.perm_rules.proofs.Refusals.KnownOnly.{refused-by-known}
+use Rattle.perm_rules.proofs.Refusals.{goes-unrefused, accepted-unrefused, flow-goes}
 use Rattle.perm_rules.proofs.laws.refusals.Goals as goal
 
 pub returns : goal.returns
-returns c = record { code = goes_unrefused; unit = accepted_unrefused; flow = flow_goes; known = refused_by_known }
+returns c = record { code = goes-unrefused; unit = accepted-unrefused; flow = flow-goes; known = refused-by-known }
