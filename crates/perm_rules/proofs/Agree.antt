@@ -116,27 +116,29 @@ agree c (If at e own1 a own2 b rest) G =
     record {
       to = λ h. (
         h.0,
-        changed (effect a) G,
-        changed (effect b) G,
-        one.to h.1,
-        two.to h.2,
-        rest-goes c rest (either (block_effect own1 a) (block_effect own2 b)) G _
-            (if-ends own1 a own2 b G _ _ refl refl (block-clear c own1 a G h.1) (block-clear c own2 b G h.2)) later h.3,
+        record {
+          left_ends = changed (effect a) G;
+          right_ends = changed (effect b) G;
+          left = one.to h.1;
+          right = two.to h.2;
+          rest = rest-goes c rest (either (block_effect own1 a) (block_effect own2 b)) G _
+              (if-ends own1 a own2 b G _ _ refl refl (block-clear c own1 a G h.1) (block-clear c own2 b G h.2)) later h.3;
+        },
       );
       fine = λ H g.
-          let f1 = one.fine g.1 g.3 in
-          let f2 = two.fine g.2 g.4 in (
+          let f1 = one.fine g.1.left_ends g.1.left in
+          let f2 = two.fine g.1.right_ends g.1.right in (
             g.0,
             f1,
             f2,
             rest-fine c rest (either (block_effect own1 a) (block_effect own2 b)) G _
-                (if-ends own1 a own2 b G g.1 g.2 (one.same g.1 g.3) (two.same g.2 g.4) (block-clear c own1 a G f1) (block-clear c own2 b G f2)) later H g.5,
+                (if-ends own1 a own2 b G g.1.left_ends g.1.right_ends (one.same g.1.left_ends g.1.left) (two.same g.1.right_ends g.1.right) (block-clear c own1 a G f1) (block-clear c own2 b G f2)) later H g.1.rest,
           );
       same = λ H g.
-          let f1 = one.fine g.1 g.3 in
-          let f2 = two.fine g.2 g.4 in
+          let f1 = one.fine g.1.left_ends g.1.left in
+          let f2 = two.fine g.1.right_ends g.1.right in
           rest-same c rest (either (block_effect own1 a) (block_effect own2 b)) G _
-          (if-ends own1 a own2 b G g.1 g.2 (one.same g.1 g.3) (two.same g.2 g.4) (block-clear c own1 a G f1) (block-clear c own2 b G f2)) later H g.5;
+          (if-ends own1 a own2 b G g.1.left_ends g.1.right_ends (one.same g.1.left_ends g.1.left) (two.same g.1.right_ends g.1.right) (block-clear c own1 a G f1) (block-clear c own2 b G f2)) later H g.1.rest;
     }
 agree c (While at e own body rest) G =
     let inner : (K : Vars) → Agrees c body K = λ K. agree c body K in
@@ -165,33 +167,35 @@ agree c (Par at own1 a own2 b rest) G =
     record {
       to = λ h. (
         h.0,
-        changed (effect a) G,
-        changed (effect b) G,
-        one.to h.1,
-        two.to h.2,
-        rest-goes c rest (both (block_effect own1 a) (block_effect own2 b)) G _
-            (par-ends own1 a own2 b G _ _ refl refl (block-clear c own1 a G h.1) (block-clear c own2 b G h.2) (sides-apart c own1 a own2 b G h.0 h.1 h.2)) later h.3,
+        record {
+          left_ends = changed (effect a) G;
+          right_ends = changed (effect b) G;
+          left = one.to h.1;
+          right = two.to h.2;
+          rest = rest-goes c rest (both (block_effect own1 a) (block_effect own2 b)) G _
+              (par-ends own1 a own2 b G _ _ refl refl (block-clear c own1 a G h.1) (block-clear c own2 b G h.2) (sides-apart c own1 a own2 b G h.0 h.1 h.2)) later h.3;
+        },
       );
       fine = λ H g.
-          let f1 = one.fine g.1 g.3 in
-          let f2 = two.fine g.2 g.4 in (
+          let f1 = one.fine g.1.left_ends g.1.left in
+          let f2 = two.fine g.1.right_ends g.1.right in (
             g.0,
             f1,
             f2,
             rest-fine c rest (both (block_effect own1 a) (block_effect own2 b)) G _
-                (par-ends own1 a own2 b G g.1 g.2 (one.same g.1 g.3) (two.same g.2 g.4) (block-clear c own1 a G f1) (block-clear c own2 b G f2) (sides-apart c own1 a own2 b G g.0 f1 f2)) later H g.5,
+                (par-ends own1 a own2 b G g.1.left_ends g.1.right_ends (one.same g.1.left_ends g.1.left) (two.same g.1.right_ends g.1.right) (block-clear c own1 a G f1) (block-clear c own2 b G f2) (sides-apart c own1 a own2 b G g.0 f1 f2)) later H g.1.rest,
           );
       same = λ H g.
-          let f1 = one.fine g.1 g.3 in
-          let f2 = two.fine g.2 g.4 in
+          let f1 = one.fine g.1.left_ends g.1.left in
+          let f2 = two.fine g.1.right_ends g.1.right in
           rest-same c rest (both (block_effect own1 a) (block_effect own2 b)) G _
-          (par-ends own1 a own2 b G g.1 g.2 (one.same g.1 g.3) (two.same g.2 g.4) (block-clear c own1 a G f1) (block-clear c own2 b G f2) (sides-apart c own1 a own2 b G g.0 f1 f2)) later H g.5;
+          (par-ends own1 a own2 b G g.1.left_ends g.1.right_ends (one.same g.1.left_ends g.1.left) (two.same g.1.right_ends g.1.right) (block-clear c own1 a G f1) (block-clear c own2 b G f2) (sides-apart c own1 a own2 b G g.0 f1 f2)) later H g.1.rest;
     }
 agree c (Recover at x own hides body rest) G =
     let inner = agree (hiding hides c) body G in
     let later = agree c rest (changed (block_effect own body) G) in
     record {
-      to = λ h. (h.0, changed (effect body) G, inner.to h.1, rest-goes c rest (block_effect own body) G _ (block-ends own body G _ refl) later h.2);
-      fine = λ H g. (g.0, inner.fine g.1 g.2, rest-fine c rest (block_effect own body) G _ (block-ends own body G g.1 (inner.same g.1 g.2)) later H g.3);
-      same = λ H g. rest-same c rest (block_effect own body) G _ (block-ends own body G g.1 (inner.same g.1 g.2)) later H g.3;
+      to = λ h. (h.0, record { ends = changed (effect body) G; body = inner.to h.1; rest = rest-goes c rest (block_effect own body) G _ (block-ends own body G _ refl) later h.2 });
+      fine = λ H g. (g.0, inner.fine g.1.ends g.1.body, rest-fine c rest (block_effect own body) G _ (block-ends own body G g.1.ends (inner.same g.1.ends g.1.body)) later H g.1.rest);
+      same = λ H g. rest-same c rest (block_effect own body) G _ (block-ends own body G g.1.ends (inner.same g.1.ends g.1.body)) later H g.1.rest;
     }

@@ -23,6 +23,20 @@ pub record GoesRound (c : Context) (e : Term) (own : List ℕ) (Body : Vars → 
   pub body : Body K ends
   pub again : IsWithin K (minus ends (those own))
 
+-- a block goes to a set, and what comes behind it goes on from that
+pub record BlockGoes (Body Rest : Vars → Type 0) : Type 0 where
+  pub ends : Vars
+  pub body : Body ends
+  pub rest : Rest ends
+
+-- two blocks go to sets, and what comes behind them goes on from both
+pub record BlocksGo (Left Right : Vars → Type 0) (Rest : Vars → Vars → Type 0) : Type 0 where
+  pub left_ends : Vars
+  pub right_ends : Vars
+  pub left : Left left_ends
+  pub right : Right right_ends
+  pub rest : Rest left_ends right_ends
+
 -- from the live set G the code goes to H. A block's own variables are live no longer at its end
 abbrev pub Goes : Context → Code → Vars → Vars → Type 0
 Goes c End G H = H ≡ G
@@ -30,13 +44,13 @@ Goes c (Give at w x) G H = IsAllowed c (Given w x) G × (H ≡ after_give w x G)
 Goes c (Return at a) G H = IsAllowed c (Returned a) G × (H ≡ after_argument a G)
 Goes c (Do at i rest) G H = IsAllowed c (Simple i) G × Goes c rest (after i G) H
 Goes c (If at e own1 a own2 b rest) G H =
-    IsAllowed c (Condition e) G × (A : Vars) × (B : Vars) × Goes c a G A × Goes c b G B × Goes c rest (meet (minus A (those own1)) (minus B (those own2))) H
+    IsAllowed c (Condition e) G × BlocksGo (λ A. Goes c a G A) (λ B. Goes c b G B) (λ A B. Goes c rest (meet (minus A (those own1)) (minus B (those own2))) H)
 Goes c (While at e own body rest) G H =
     (K : Vars) × IsGreatest (GoesRound c e own (λ K L. Goes c body K L) G) K × Goes c rest K H
 Goes c (Par at own1 a own2 b rest) G H =
-    IsAllowed c (par_head c own1 a own2 b) G × (A : Vars) × (B : Vars) × Goes c a G A × Goes c b G B × Goes c rest (joined G (minus A (those own1)) (minus B (those own2))) H
+    IsAllowed c (par_head c own1 a own2 b) G × BlocksGo (λ A. Goes c a G A) (λ B. Goes c b G B) (λ A B. Goes c rest (joined G (minus A (those own1)) (minus B (those own2))) H)
 Goes c (Recover at x own hides body rest) G H =
-    IsAllowed c (RecoverHead x) G × (K : Vars) × Goes (hiding hides c) body G K × Goes c rest (minus K (those own)) H
+    IsAllowed c (RecoverHead x) G × BlockGoes (λ K. Goes (hiding hides c) body G K) (λ K. Goes c rest (minus K (those own)) H)
 
 -- ---------- methods and units ----------
 -- what the body of a method is checked by

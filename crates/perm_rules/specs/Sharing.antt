@@ -12,6 +12,13 @@ plain_head c own1 a own2 b = ParHead (uses c own1 a) (uses c own2 b) (sets c own
 abbrev pub SharesPlainly : Context → List ℕ → Code → List ℕ → Code → Type 0
 SharesPlainly c own1 a own2 b = par_shared c (par_head c own1 a own2 b) ≡ par_shared c (plain_head c own1 a own2 b)
 
+-- it is so of a par, of what stands in its blocks, and of what comes behind it
+pub record ParSharesPlainly (c : Context) (own1 : List ℕ) (a : Code) (own2 : List ℕ) (b : Code) (Left Right Rest : Type 0) : Type 0 where
+  pub head : SharesPlainly c own1 a own2 b
+  pub left : Left
+  pub right : Right
+  pub rest : Rest
+
 -- so it is of each par anywhere in a code
 abbrev pub AllSharePlainly : Context → Code → Type 0
 AllSharePlainly c End = Unit {0}
@@ -20,5 +27,5 @@ AllSharePlainly c (Return at a) = Unit {0}
 AllSharePlainly c (Do at i rest) = AllSharePlainly c rest
 AllSharePlainly c (If at e own1 a own2 b rest) = AllSharePlainly c a × AllSharePlainly c b × AllSharePlainly c rest
 AllSharePlainly c (While at e own body rest) = AllSharePlainly c body × AllSharePlainly c rest
-AllSharePlainly c (Par at own1 a own2 b rest) = SharesPlainly c own1 a own2 b × AllSharePlainly c a × AllSharePlainly c b × AllSharePlainly c rest
+AllSharePlainly c (Par at own1 a own2 b rest) = ParSharesPlainly c own1 a own2 b (AllSharePlainly c a) (AllSharePlainly c b) (AllSharePlainly c rest)
 AllSharePlainly c (Recover at x own hides body rest) = AllSharePlainly c body × AllSharePlainly c rest

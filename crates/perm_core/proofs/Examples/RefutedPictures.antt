@@ -128,11 +128,11 @@ deep-told : tree_right u deep.task ≡ false
 deep-told = refl
 
 deep-goes : (H : Vars) × TreeGoes u [] deep.task H
-deep-goes = (_, inr (refl, _, _, (refl, _, _, (refl, refl), refl, refl), refl, (refl, refl)))
+deep-goes = (_, inr (refl, record { left_ends = _; right_ends = _; left = (refl, record { left_ends = _; right_ends = _; left = (refl, refl); right = refl; rest = refl }); right = refl; rest = (refl, refl) }))
 
 deep-lost : (H : Vars) → TreeGoes u [] (after deep).task H → ⊥
 deep-lost H (A, B, inl f, right, rest) = absurd f
-deep-lost H (A, B, inr k, right, rest) = let e = k.3.0 in absurd (cc)
+deep-lost H (A, B, inr k, right, rest) = let e = k.1.left.0 in absurd (cc)
 
 -- a waiting parent that has an end
 abbrev shut : State

@@ -85,8 +85,8 @@ module _ (D : Vars) where
   hidden-free c (Return at r) G H all goes = λ y m. out c y all (argument-none (those c.hidden) y r (applies-none c (Returned r) G goes.0 Hidden) m)
   hidden-free c (Do at i rest) G H all goes = (λ y m. out c y all (instruction-none (those c.hidden) y i (applies-none c (Simple i) G goes.0 Hidden) m), hidden-free c rest _ H all goes.1)
   hidden-free c (If at e own1 a own2 b rest) G H all goes =
-      (λ y m. out c y all (term-none (those c.hidden) y e (applies-none c (Condition e) G goes.0 Hidden) m), (hidden-free c a G goes.1 all goes.3, (hidden-free c b G goes.2 all goes.4, hidden-free c rest _ H all goes.5)))
+      (λ y m. out c y all (term-none (those c.hidden) y e (applies-none c (Condition e) G goes.0 Hidden) m), (hidden-free c a G goes.1.left_ends all goes.1.left, (hidden-free c b G goes.1.right_ends all goes.1.right, hidden-free c rest _ H all goes.1.rest)))
   hidden-free c (While at e own body rest) G H all goes =
       (λ y m. out c y all (term-none (those c.hidden) y e (applies-none c (Condition e) goes.0 goes.1.holds.tested Hidden) m), (hidden-free c body goes.0 goes.1.holds.ends all goes.1.holds.body, hidden-free c rest goes.0 H all goes.2))
-  hidden-free c (Par at own1 a own2 b rest) G H all goes = (hidden-free c a G goes.1 all goes.3, (hidden-free c b G goes.2 all goes.4, hidden-free c rest _ H all goes.5))
-  hidden-free c (Recover at x own hides body rest) G H all goes = (hidden-free (hiding hides c) body G goes.1 (deeper c hides all) goes.2, hidden-free c rest _ H all goes.3)
+  hidden-free c (Par at own1 a own2 b rest) G H all goes = (hidden-free c a G goes.1.left_ends all goes.1.left, (hidden-free c b G goes.1.right_ends all goes.1.right, hidden-free c rest _ H all goes.1.rest))
+  hidden-free c (Recover at x own hides body rest) G H all goes = (hidden-free (hiding hides c) body G goes.1.ends (deeper c hides all) goes.1.body, hidden-free c rest _ H all goes.1.rest)

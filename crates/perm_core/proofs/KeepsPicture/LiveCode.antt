@@ -174,7 +174,7 @@ module _ (u : UnitCode) where
   -- ---------- blocks ----------
   pub if-goes : (below : List ℕ) (m : ℕ) (at : Span) (x : Term) (own1 : List ℕ) (a : Code) (own2 : List ℕ) (d rest : Code) (st : List (Frame Held)) (G H : Vars) → RestGoes u below m (If at x own1 a own2 d rest) st G H
       → Further (λ M. RestGoes u below m a (OpenBlock own1 rest ∷ st) G M) H × Further (λ M. RestGoes u below m d (OpenBlock own2 rest ∷ st) G M) H
-  if-goes below m at x own1 a own2 d rest st G H goes = (block own1 a A t.goes.3 left_part, block own2 d B t.goes.4 right_part)
+  if-goes below m at x own1 a own2 d rest st G H goes = (block own1 a A t.goes.1.left left_part, block own2 d B t.goes.1.right right_part)
     where
       c : Code
       c = If at x own1 a own2 d rest
@@ -183,10 +183,10 @@ module _ (u : UnitCode) where
       t = top below m c st G H goes
 
       A : Vars
-      A = t.goes.1
+      A = t.goes.1.left_ends
 
       B : Vars
-      B = t.goes.2
+      B = t.goes.1.right_ends
 
       left_part : IsWithin (meet (minus A (those own1)) (minus B (those own2))) (minus A (those own1))
       left_part y e = (and_parts (minus A (those own1) y) (minus B (those own2) y) e).0
@@ -195,7 +195,7 @@ module _ (u : UnitCode) where
       right_part y e = (and_parts (minus A (those own1) y) (minus B (those own2) y) e).1
 
       block : (own : List ℕ) (e : Code) (E : Vars) → Goes (context_above u below m st) e G E → IsWithin (meet (minus A (those own1)) (minus B (those own2))) (minus E (those own)) → Further (λ M. RestGoes u below m e (OpenBlock own rest ∷ st) G M) H
-      block own e E on less = let r = instead-from below m c st G H t rest (meet (minus A (those own1)) (minus B (those own2))) (minus E (those own)) t.goes.5 less in record { ends = r.ends; goes = (E, on, r.goes); more = r.more }
+      block own e E on less = let r = instead-from below m c st G H t rest (meet (minus A (those own1)) (minus B (those own2))) (minus E (those own)) t.goes.1.rest less in record { ends = r.ends; goes = (E, on, r.goes); more = r.more }
 
   pub while-goes : (below : List ℕ) (m : ℕ) (at : Span) (x : Term) (own : List ℕ) (body rest : Code) (st : List (Frame Held)) (G H : Vars) → RestGoes u below m (While at x own body rest) st G H
       → Further (λ M. RestGoes u below m body (OpenBlock own (While at x own body rest) ∷ st) G M) H × Further (λ M. RestGoes u below m rest st G M) H

@@ -200,7 +200,7 @@ module _ (u : UnitCode) where
       t = top u below m (Recover at x own hides body rest) st U H goes
 
       K : Vars
-      K = t.goes.1
+      K = t.goes.1.ends
 
       V : Vars
       V = valued (only tagged (λ y. not (those hides y)) vs)
@@ -209,7 +209,7 @@ module _ (u : UnitCode) where
       saved = only tagged (those hides) vs
 
       fewer : Onward (hiding hides k) body U K (those hides)
-      fewer = goes-fewer (hiding hides k) body U K (those hides) (hidden-free (those hides) (hiding hides k) body U K (λ y e. any-left y hides k.hidden e) t.goes.2) t.goes.2
+      fewer = goes-fewer (hiding hides k) body U K (those hides) (hidden-free (those hides) (hiding hides k) body U K (λ y e. any-left y hides k.hidden e) t.goes.1.body) t.goes.1.body
 
       rest_has : IsWithin (minus U (those hides)) V
       rest_has y e = let p = and_parts (U y) (not (those hides y)) e in only-has (λ y. not (those hides y)) vs y (together (not (those hides y)) (U y) p.1 p.0)
@@ -221,7 +221,7 @@ module _ (u : UnitCode) where
       enough : IsWithin (minus K (those own)) (plus (minus inside.0 (those own)) (valued saved))
       enough y e =
           let p = and_parts (K y) (not (those own y)) e in
-          pick (from-changed (effect body) U y (subst (λ (G : Vars). G y ≡ true) (ends-by (hiding hides k) body U K t.goes.2) p.0)) p.1
+          pick (from-changed (effect body) U y (subst (λ (G : Vars). G y ≡ true) (ends-by (hiding hides k) body U K t.goes.1.body) p.0)) p.1
         where
           stays : ((V y ≡ true) × (not ((effect body).lost y) ≡ true)) ⊎ ((effect body).made y ≡ true) → not (those own y) ≡ true → plus (minus inside.0 (those own)) (valued saved) y ≡ true
           stays q off =
@@ -237,7 +237,7 @@ module _ (u : UnitCode) where
           pick (inr made) off = stays (inr made) off
 
       behind : (L : Vars) × Goes k rest (plus (minus inside.0 (those own)) (valued saved)) L × IsWithin t.ends L
-      behind = goes-from-more k rest (minus K (those own)) t.ends (plus (minus inside.0 (those own)) (valued saved)) enough t.goes.3
+      behind = goes-from-more k rest (minus K (those own)) t.ends (plus (minus inside.0 (those own)) (valued saved)) enough t.goes.1.rest
 
   pub give-goes : (below : List ℕ) (m : ℕ) (at : Span) (y x : ℕ) (own hides : List ℕ) (saved : List Held) (rest : Code) (st : List (Frame Held)) (vs : List Held) (v : Held) (a : Value Name) (H : Vars) → v ≡ Some a
       → length (context_of u m).vars ≡ length vs → length (context_of u m).vars ≡ length saved → none_valued (hides ++ hidden_above below st) vs ≡ true → only_valued hides saved ≡ true
@@ -347,16 +347,16 @@ module _ (u : UnitCode) where
       top_on = top u below m (Par at own1 a own2 d rest) b.stack U H goes
 
       A : Vars
-      A = top_on.goes.1
+      A = top_on.goes.1.left_ends
 
       B : Vars
-      B = top_on.goes.2
+      B = top_on.goes.1.right_ends
 
       goes_a : Goes k a U A
-      goes_a = top_on.goes.3
+      goes_a = top_on.goes.1.left
 
       goes_d : Goes k d U B
-      goes_d = top_on.goes.4
+      goes_d = top_on.goes.1.right
 
       first_vs : List Held
       first_vs = only tagged (mentions_l p) b.own.vars
@@ -467,7 +467,7 @@ module _ (u : UnitCode) where
           by_right (inr r) is = by_left r (test (back_l u m p x)) is
 
       behind : (L : Vars) × Goes k rest live L × IsWithin top_on.ends L
-      behind = goes-from-more k rest (joined U A' B') top_on.ends live enough top_on.goes.5
+      behind = goes-from-more k rest (joined U A' B') top_on.ends live enough top_on.goes.1.rest
 
   -- both sides have gone well: what comes back has what is live after the join
   pub merged-has : (m : ℕ) (p : Blocks) (vs ls rs : List Held) → length ls ≡ length vs → length rs ≡ length vs → IsWithin (live_joined u m p (valued vs) (valued ls) (valued rs)) (valued (merged (back_l u m p) (back_r u m p) vs ls rs))

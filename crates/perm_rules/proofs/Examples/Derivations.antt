@@ -14,7 +14,7 @@ p1-derived = ((_, (refl, (refl, (refl, (refl, (refl, (refl, (refl, refl)))))))),
 
 -- two declarations, a par whose sides assign one variable each, a print and a `return`
 p11-derived : IsAccepted (code_of (unit p11))
-p11-derived = ((_, (refl, (refl, (refl, _, _, (refl, refl), (refl, refl), (refl, (refl, refl)))))), tt)
+p11-derived = ((_, (refl, (refl, (refl, record { left_ends = _; right_ends = _; left = (refl, refl); right = (refl, refl); rest = (refl, (refl, refl)) })))), tt)
 
 -- a recover block with a loop, and a recursive method
 p2-derived : IsAccepted (code_of (unit p2))

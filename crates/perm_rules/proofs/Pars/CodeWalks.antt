@@ -233,7 +233,7 @@ module _ (vars : List VarInfo) (c : Context) where
       stands = λ rest x q. two-stand (mentioned rest) x q;
       splits = λ rest x q. two-split (touched rest) (written rest) x q;
       keeps = λ rest x q. two-keep (written rest) x q;
-      pars = λ rest all. (plain, left.pars, right.pars, all);
+      pars = λ rest all. record { head = plain; left = left.pars; right = right.pars; rest = all };
       gives = λ rest x. refl;
       scoped = two-scoped;
     }
