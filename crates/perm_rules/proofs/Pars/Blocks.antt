@@ -149,20 +149,24 @@ module _ (earlier : Earlier) where
                   (first (had-left vars declared (ws ++ others end) had) (had-left vars ws (others end) behind_had) (all-left vars lo mid hi (declared ++ ws) (others end) on behind.starts grouped))
                   (second (had-right vars ws (others end) behind_had) (all-right vars lo mid hi (declared ++ ws) (others end) room front.starts grouped))
 
-  -- a block in braces
+  -- the code of a block in braces, between two places; what stands in it and isn't its own begins before a third one
+  pub record InBraces (from lo hi : ℕ) (is : List ℕ) : Type 0 where
+    pub encloses : Encloses vars c lo hi (own_vars k is) (sequence fs is End)
+    pub begins : AllBegin vars from (block_mentions (own_vars k is) (sequence fs is End))
+
+  -- a block in braces, and the marks behind it
   pub record One (lo : ℕ) (rest : List Mark) (is : List ℕ) : Type 0 where
     pub hi : ℕ
     pub room : lo ≤ hi
     pub rise : IsRising hi rest
     pub rows : Rows lo hi hi (braced_vars stmts inner is)
-    pub block : AllHad vars (braced_vars stmts inner is) → AreAll vars lo hi (braced_vars stmts inner is)
-        → Encloses vars c lo hi (own_vars k is) (sequence fs is End) × AllBegin vars lo (block_mentions (own_vars k is) (sequence fs is End))
+    pub block : AllHad vars (braced_vars stmts inner is) → AreAll vars lo hi (braced_vars stmts inner is) → InBraces lo lo hi is
 
-  braced : (lo hi : ℕ) (is : List ℕ) → Tells facts lo hi hi (own_vars k is) (sequence fs is) → Encloses vars c lo hi (own_vars k is) (sequence fs is End) × AllBegin vars lo (block_mentions (own_vars k is) (sequence fs is End))
-  braced lo hi is t = (
-    encloses-end vars c lo hi (own_vars k is) (sequence fs is) t.walks t.lies t.fresh,
-    outer-begins facts lo (own_vars k is) (sequence fs is) End (λ x e. absurd (let no : ⊥ = cc e in no)) t.opens,
-  )
+  braced : (lo hi : ℕ) (is : List ℕ) → Tells facts lo hi hi (own_vars k is) (sequence fs is) → InBraces lo lo hi is
+  braced lo hi is t = record {
+    encloses = encloses-end vars c lo hi (own_vars k is) (sequence fs is) t.walks t.lies t.fresh;
+    begins = outer-begins facts lo (own_vars k is) (sequence fs is) End (λ x e. absurd (let no : ⊥ = cc e in no)) t.opens;
+  }
 
   pub one-told : (lo : ℕ) (is : List ℕ) (rest : List Mark) → AllBelow n is → base ≤ lo → IsRising lo (block_marks ms is rest) → One lo rest is
   one-told lo [] rest below up rise = record {
@@ -190,7 +194,7 @@ module _ (earlier : Earlier) where
           same : hi ≡ block_end stmts 0 (i ∷ is)
           same = ap (λ (o : Option Stmt). block_end stmts (end_if lo o) is) here ∙ sym (ap (λ (o : Option Stmt). block_end stmts (end_if 0 o) is) here)
 
-  -- two blocks
+  -- two blocks in braces, and the marks behind them
   pub record Two (lo : ℕ) (rest : List Mark) (is js : List ℕ) : Type 0 where
     pub mid : ℕ
     pub hi : ℕ
@@ -199,8 +203,7 @@ module _ (earlier : Earlier) where
     pub rise : IsRising hi rest
     pub rows : Rows lo hi hi (braced_vars stmts inner is ++ braced_vars stmts inner js)
     pub blocks : AllHad vars (braced_vars stmts inner is ++ braced_vars stmts inner js) → AreAll vars lo hi (braced_vars stmts inner is ++ braced_vars stmts inner js)
-        → (Encloses vars c lo mid (own_vars k is) (sequence fs is End) × AllBegin vars lo (block_mentions (own_vars k is) (sequence fs is End)))
-        × (Encloses vars c mid hi (own_vars k js) (sequence fs js End) × AllBegin vars lo (block_mentions (own_vars k js) (sequence fs js End)))
+        → InBraces lo lo mid is × InBraces lo mid hi js
 
   pub two-told : (lo : ℕ) (is js : List ℕ) (rest : List Mark) → AllBelow n is → AllBelow n js → base ≤ lo → IsRising lo (block_marks ms is (block_marks ms js rest)) → Two lo rest is js
   two-told lo is js rest below under up rise = go (one-told lo is (block_marks ms js rest) below up rise)
@@ -211,12 +214,11 @@ module _ (earlier : Earlier) where
       ws : List VarInfo
       ws = braced_vars stmts inner js
 
-      sooner : {mid hi : ℕ} → Rows lo mid mid vs → AreAll vars lo mid vs → Encloses vars c mid hi (own_vars k js) (sequence fs js End) × AllBegin vars mid (block_mentions (own_vars k js) (sequence fs js End))
-          → Encloses vars c mid hi (own_vars k js) (sequence fs js End) × AllBegin vars lo (block_mentions (own_vars k js) (sequence fs js End))
-      sooner {mid} {hi} rows all (block, begins) = (
-        block,
-        λ x e. begins-sooner facts lo mid hi x vs rows all (block.stands x (and_parts (mentioned (sequence fs js End) x) (not (those (own_vars k js) x)) e).0) (begins x e),
-      )
+      sooner : {mid hi : ℕ} → Rows lo mid mid vs → AreAll vars lo mid vs → InBraces mid mid hi js → InBraces lo mid hi js
+      sooner {mid} {hi} rows all block = record {
+        encloses = block.encloses;
+        begins = λ x e. begins-sooner facts lo mid hi x vs rows all (block.encloses.stands x (and_parts (mentioned (sequence fs js End) x) (not (those (own_vars k js) x)) e).0) (block.begins x e);
+      }
 
       both : (left : One lo (block_marks ms js rest) is) → One left.hi rest js → Two lo rest is js
       both left right =

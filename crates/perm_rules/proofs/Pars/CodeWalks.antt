@@ -12,7 +12,7 @@ use Rattle.perm_rules.specs.Parts.{Context}
 use Rattle.perm_rules.specs.Pars.{uses, sets, touched_by, touched, touches, some_var, isolated_vars}
 use Rattle.perm_rules.specs.Sharing.{SharesPlainly, AllSharePlainly}
 use Rattle.perm_rules.specs.Scoping.{given, has_none, hides_tied, is_scoped}
-use Rattle.perm_rules.proofs.Pars.Scoped.{Meets, LiesIn, meets-more, lies-more}
+use Rattle.perm_rules.proofs.Pars.Scoped.{Meets, LiesIn, AllLie, meets-more, lies-more}
 use Rattle.perm_rules.proofs.Pars.Beginnings.{Begins, AllBegin, begins-more, begins-plus, AreBegun, begun-more, begun-none}
 use Rattle.perm_rules.proofs.Written.{block-touched, written-touched}
 
@@ -299,7 +299,7 @@ module _ (vars : List VarInfo) (c : Context) where
 
   -- ---------- whole blocks ----------
   -- what is written in a block and isn't its own is written outside it
-  own-splits : (lo hi : ℕ) (own : List ℕ) (a : Code) → ((x : ℕ) → touched a x ≡ true → InOrIn vars lo hi (written a) x) → ((x : ℕ) → those own x ≡ true → LiesIn vars lo hi x)
+  own-splits : (lo hi : ℕ) (own : List ℕ) (a : Code) → ((x : ℕ) → touched a x ≡ true → InOrIn vars lo hi (written a) x) → AllLie vars lo hi own
       → (x : ℕ) → plus (touched a) (those own) x ≡ true → InOrIn vars lo hi (block_writes own a) x
   own-splits lo hi own a split lies x e = by-own (those own x) refl (or_cases (touched a x) (those own x) e)
     where
@@ -313,7 +313,7 @@ module _ (vars : List VarInfo) (c : Context) where
       by-own false q (inr o) = inr (lies x o)
 
   -- a block in braces
-  pub encloses-end : (lo hi : ℕ) (own : List ℕ) (f : Code → Code) → Walks vars c lo hi hi f → ((x : ℕ) → those own x ≡ true → LiesIn vars lo hi x) → AreBegun vars lo own → Encloses vars c lo hi own (f End)
+  pub encloses-end : (lo hi : ℕ) (own : List ℕ) (f : Code → Code) → Walks vars c lo hi hi f → AllLie vars lo hi own → AreBegun vars lo own → Encloses vars c lo hi own (f End)
   encloses-end lo hi own f is lies fresh = record {
     stands = λ x e. standing x (is.stands End x e);
     splits = own-splits lo hi own (f End) (λ x e. splitting x (is.splits End x e)) lies;
@@ -331,7 +331,7 @@ module _ (vars : List VarInfo) (c : Context) where
       splitting x (inr is) = is
 
   -- a recover block, whose `give` hands w to y
-  pub encloses-give : (lo hi : ℕ) (own : List ℕ) (f : Code → Code) (at : Span) (w y : ℕ) → Walks vars c lo hi hi f → ((x : ℕ) → plus (just w) (just y) x ≡ true → Meets vars lo hi x) → ((x : ℕ) → those own x ≡ true → LiesIn vars lo hi x)
+  pub encloses-give : (lo hi : ℕ) (own : List ℕ) (f : Code → Code) (at : Span) (w y : ℕ) → Walks vars c lo hi hi f → ((x : ℕ) → plus (just w) (just y) x ≡ true → Meets vars lo hi x) → AllLie vars lo hi own
       → AreBegun vars lo own → Encloses vars c lo hi own (f (Give at w y))
   encloses-give lo hi own f at w y is meets lies fresh = record {
     stands = λ x e. standing x (is.stands (Give at w y) x e);

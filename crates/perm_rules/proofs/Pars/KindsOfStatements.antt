@@ -20,10 +20,10 @@ use Rattle.perm_rules.specs.Pars.{touched_by}
 use Rattle.perm_rules.proofs.Pars.Scoped.{Meets, meets-more, named-meets, AllHad}
 use Rattle.perm_rules.proofs.Pars.Beginnings.{among-none, Rows, rows-none, rows-more, AllNamed, named-rows, AreAll, all-right, all-within, Begins, AllBegin}
 use Rattle.perm_rules.proofs.Pars.StandingTerms.{Stands, stands-name, stands-past, stands-then, expr-at, arg-stands, call-stands}
-use Rattle.perm_rules.proofs.Pars.CodeWalks.{Walks, Encloses, walks-more, do-walks, if-walks, par-walks, while-walks, encloses-sooner, shares-plainly}
+use Rattle.perm_rules.proofs.Pars.CodeWalks.{Walks, walks-more, do-walks, if-walks, par-walks, while-walks, encloses-sooner, shares-plainly}
 use Rattle.perm_rules.proofs.Pars.OwnVariables.{MethodFacts, OwnLie, own-one, own-begun}
 use Rattle.perm_rules.proofs.Pars.Tellings.{Earlier, Opens, walks-open, opens-own, opens-none, Tells, tells-none, Ends, simple, TellsIn}
-use Rattle.perm_rules.proofs.Pars.Blocks.{One, one-told, Two, two-told, else-below}
+use Rattle.perm_rules.proofs.Pars.Blocks.{InBraces, One, one-told, Two, two-told, else-below}
 use Rattle.perm_rules.proofs.Pars.RightSides.{rhs-told}
 
 module _ (earlier : Earlier) where
@@ -242,19 +242,19 @@ module _ (earlier : Earlier) where
               )
             where
               walk : (end : ℕ) → s.span.end ≤ end → (mid hi : ℕ) → s.head.end ≤ mid → mid ≤ hi → hi ≤ s.span.end → Rows s.head.end hi hi ws → AreAll vars lo s.span.end ws
-                  → (Encloses vars c s.head.end mid own1 code1 × AllBegin vars s.head.end (block_mentions own1 code1)) × (Encloses vars c mid hi own2 code2 × AllBegin vars s.head.end (block_mentions own2 code2))
+                  → InBraces earlier s.head.end s.head.end mid a.stmts × InBraces earlier s.head.end mid hi (else_stmts b)
                   → Tells facts lo s.span.end end [] f
-              walk end behind mid hi room more last rows whole ((left, begins1), (right, begins2)) =
+              walk end behind mid hi room more last rows whole (left, right) =
                   tells-none facts lo s.span.end end f
                   (walks-more vars c lo lo hi s.span.end end f (omega arith) last
                   (if-walks vars c lo mid hi end own1 code1 own2 code2 (omega arith) more (omega arith)
-                  (encloses-sooner vars c lo s.head.end mid own1 code1 (omega arith) left)
-                  right
+                  (encloses-sooner vars c lo s.head.end mid own1 code1 (omega arith) left.encloses)
+                  right.encloses
                   s.head
                   (term_at k e)
                   (λ x z. meets-more vars lo test lo hi x (omega arith) (omega arith) (meets x z))))
                   (opens-none facts lo s.head.end s.span.end ws f (omega arith) (λ v i. (rows.starts v i).behind) whole
-                  (two-open s.head.end (term_mentions (term_at k e)) own1 code1 own2 code2 (λ x z v here. let begins : v.scope.start < test = (meets x z v here).0 in omega arith) begins1 begins2))
+                  (two-open s.head.end (term_mentions (term_at k e)) own1 code1 own2 code2 (λ x z v here. let begins : v.scope.start < test = (meets x z v here).0 in omega arith) left.begins right.begins))
   kind-told count lo s (WhileStmt e a) rest placed up rise =
       let blocks = block_marks ms a.stmts (ends s.span.end ∷ rest) in
       go (expr-at k exprs facts.terms e lo (ends s.head.end ∷ blocks) rise) (λ higher r. one-told earlier s.head.end a.stmts (ends s.span.end ∷ rest) placed.1 higher r)
@@ -289,18 +289,18 @@ module _ (earlier : Earlier) where
               )
             where
               walk : (end : ℕ) → s.span.end ≤ end → (hi : ℕ) → s.head.end ≤ hi → hi ≤ s.span.end → Rows s.head.end hi hi ws → AreAll vars lo s.span.end ws
-                  → Encloses vars c s.head.end hi own body × AllBegin vars s.head.end (block_mentions own body) → Tells facts lo s.span.end end [] f
-              walk end behind hi room last rows whole (block, begins) =
+                  → InBraces earlier s.head.end s.head.end hi a.stmts → Tells facts lo s.span.end end [] f
+              walk end behind hi room last rows whole block =
                   tells-none facts lo s.span.end end f
                   (walks-more vars c lo lo hi s.span.end end f (omega arith) last
-                  (while-walks vars c lo s.head.end hi end s.head (term_at k e) own body (omega arith) room (omega arith) (λ x z. meets-more vars lo test lo hi x (omega arith) (omega arith) (meets x z)) block begins))
+                  (while-walks vars c lo s.head.end hi end s.head (term_at k e) own body (omega arith) room (omega arith) (λ x z. meets-more vars lo test lo hi x (omega arith) (omega arith) (meets x z)) block.encloses block.begins))
                   (opens-none facts lo s.head.end s.span.end ws f (omega arith) (λ v i. (rows.starts v i).behind) whole opened)
                 where
                   opened : Opens facts s.head.end f
                   opened code x q = first (or_cases (term_mentions (term_at k e) x) (plus (block_mentions own body) (mentioned code) x) q)
                     where
                       second : (block_mentions own body x ≡ true) ⊎ (mentioned code x ≡ true) → (mentioned code x ≡ true) ⊎ Begins vars s.head.end x
-                      second (inl m) = inr (begins x m)
+                      second (inl m) = inr (block.begins x m)
                       second (inr m) = inl m
 
                       first : (term_mentions (term_at k e) x ≡ true) ⊎ (plus (block_mentions own body) (mentioned code) x ≡ true) → (mentioned code x ≡ true) ⊎ Begins vars s.head.end x
@@ -341,10 +341,10 @@ module _ (earlier : Earlier) where
           )
         where
           walk : (end : ℕ) → s.span.end ≤ end → (mid hi : ℕ) → s.head.end ≤ mid → mid ≤ hi → hi ≤ s.span.end → Rows s.head.end hi hi ws → AreAll vars lo s.span.end ws
-              → (Encloses vars c s.head.end mid own1 code1 × AllBegin vars s.head.end (block_mentions own1 code1)) × (Encloses vars c mid hi own2 code2 × AllBegin vars s.head.end (block_mentions own2 code2))
+              → InBraces earlier s.head.end s.head.end mid a.stmts × InBraces earlier s.head.end mid hi b.stmts
               → Tells facts lo s.span.end end [] f
-          walk end behind mid hi room more last rows whole ((left, begins1), (right, begins2)) =
+          walk end behind mid hi room more last rows whole (left, right) =
               tells-none facts lo s.span.end end f
               (walks-more vars c lo s.head.end hi s.span.end end f head last
-              (par-walks vars c s.head.end mid hi end own1 code1 own2 code2 room more (omega arith) left right s.head (shares-plainly vars c facts.types s.head.end mid hi own1 code1 own2 code2 left right)))
-              (opens-none facts lo s.head.end s.span.end ws f (omega arith) (λ v i. (rows.starts v i).behind) whole (two-open s.head.end none own1 code1 own2 code2 (λ x z. absurd (let no : ⊥ = cc z in no)) begins1 begins2))
+              (par-walks vars c s.head.end mid hi end own1 code1 own2 code2 room more (omega arith) left.encloses right.encloses s.head (shares-plainly vars c facts.types s.head.end mid hi own1 code1 own2 code2 left.encloses right.encloses)))
+              (opens-none facts lo s.head.end s.span.end ws f (omega arith) (λ v i. (rows.starts v i).behind) whole (two-open s.head.end none own1 code1 own2 code2 (λ x z. absurd (let no : ⊥ = cc z in no)) left.begins right.begins))

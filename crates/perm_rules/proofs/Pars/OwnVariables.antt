@@ -9,7 +9,7 @@ use Rattle.perm_tree.specs.Scopes.{known_until}
 use Rattle.perm_tree.specs.TextOrder.{Marks}
 use Rattle.perm_tree.specs.Vars.{those}
 use Rattle.perm_rules.specs.Parts.{Context}
-use Rattle.perm_rules.proofs.Pars.Scoped.{LiesIn, lies-more, AreApart, AllHad, declared-lies}
+use Rattle.perm_rules.proofs.Pars.Scoped.{LiesIn, AllLie, lies-more, AreApart, AllHad, declared-lies}
 use Rattle.perm_rules.proofs.Pars.Beginnings.{AllNamed, IsBegun, AreBegun, begun-more, declared-begun, AllEarly}
 use Rattle.perm_rules.proofs.Pars.StandingTerms.{AllTermsStand}
 
@@ -33,7 +33,7 @@ module _ (facts : MethodFacts) where
 
   -- some declarations have scopes that begin in a stretch and end with it
   abbrev pub OwnLie : ℕ → ℕ → List FieldDecl → Type 0
-  OwnLie lo end ds = (x : ℕ) → those (map (λ d. var_at k d.name) ds) x ≡ true → LiesIn vars lo end x
+  OwnLie lo end ds = AllLie vars lo end (map (λ d. var_at k d.name) ds)
 
   pub own-none : (lo end : ℕ) → OwnLie lo end []
   own-none lo end x e = absurd (let no : ⊥ = cc e in no)
@@ -45,8 +45,7 @@ module _ (facts : MethodFacts) where
       pick (inl q) = subst (LiesIn vars lo end) (sym (eqb-true x (var_at k d.name) q)) (declared-lies vars lo end d facts.apart had low)
       pick (inr q) = absurd (let no : ⊥ = cc q in no)
 
-  pub own-both : (lo from end : ℕ) (xs ys : List ℕ) → lo ≤ from → ((x : ℕ) → those xs x ≡ true → LiesIn vars lo end x) → ((x : ℕ) → those ys x ≡ true → LiesIn vars from end x)
-      → (x : ℕ) → those (xs ++ ys) x ≡ true → LiesIn vars lo end x
+  pub own-both : (lo from end : ℕ) (xs ys : List ℕ) → lo ≤ from → AllLie vars lo end xs → AllLie vars from end ys → AllLie vars lo end (xs ++ ys)
   own-both lo from end [] ys low left right x e = lies-more vars from end lo end x low (omega arith) (right x e)
   own-both lo from end (y ∷ xs) ys low left right x e =
       pick (or_cases (nat_eq x y) (those (xs ++ ys) x) e) (own-both lo from end xs ys low (λ z q. left z (or_right (nat_eq z y) (those xs z) q)) right x)

@@ -7,6 +7,7 @@ use Rattle.perm_tree.specs.declared.ast.Ident.{Ident}
 use Rattle.perm_tree.specs.declared.unit.VarInfo.{VarInfo}
 use Rattle.perm_tree.specs.Lookup.{is_known_as, var_place}
 use Rattle.perm_tree.specs.Scopes.{known_until}
+use Rattle.perm_tree.specs.Vars.{those}
 
 -- the scope of a variable meets a stretch of the text
 abbrev pub Meets : List VarInfo → ℕ → ℕ → ℕ → Type 0
@@ -15,6 +16,10 @@ Meets vars lo hi x = (v : VarInfo) → slice_get vars x ≡ Some v → (v.scope.
 -- it lies in one
 abbrev pub LiesIn : List VarInfo → ℕ → ℕ → ℕ → Type 0
 LiesIn vars lo hi x = (v : VarInfo) → slice_get vars x ≡ Some v → (lo ≤ v.scope.start) × (v.scope.end ≤ hi)
+
+-- the scopes of listed variables all lie in one
+abbrev pub AllLie : List VarInfo → ℕ → ℕ → List ℕ → Type 0
+AllLie vars lo hi xs = (x : ℕ) → those xs x ≡ true → LiesIn vars lo hi x
 
 pub meets-more : (vars : List VarInfo) (lo hi from end x : ℕ) → from ≤ lo → hi ≤ end → Meets vars lo hi x → Meets vars from end x
 meets-more vars lo hi from end x less more meets v here =

@@ -14,7 +14,7 @@ use Rattle.perm_tree.specs.TextOrder.{Mark, ends, IsRising, Marks}
 use Rattle.perm_tree.specs.Vars.{those, plus, IsWithin}
 use Rattle.perm_rules.specs.Parts.{Context}
 use Rattle.perm_rules.specs.Pars.{touched_by}
-use Rattle.perm_rules.proofs.Pars.Scoped.{Meets, LiesIn, meets-more, AllHad}
+use Rattle.perm_rules.proofs.Pars.Scoped.{Meets, AllLie, meets-more, AllHad}
 use Rattle.perm_rules.proofs.Pars.Beginnings.{IsAmong, among-append, AllStartIn, Rows, rows-none, AllNamed, AreAll, Begins, AllBegin, AreBegun, declared-listed}
 use Rattle.perm_rules.proofs.Pars.StandingTerms.{Stands}
 use Rattle.perm_rules.proofs.Pars.CodeWalks.{Walks, walks-then, do-walks}
@@ -96,7 +96,7 @@ module _ (facts : MethodFacts) where
   -- a code between two places, in a block that ends at a third one, in which it declares variables
   pub record Tells (lo hi end : ℕ) (own : List ℕ) (f : Code → Code) : Type 0 where
     pub walks : Walks vars c lo hi end f
-    pub lies : (x : ℕ) → those own x ≡ true → LiesIn vars lo end x
+    pub lies : AllLie vars lo end own
     pub fresh : AreBegun vars lo own
     pub opens : OpensOwn lo own f
 
