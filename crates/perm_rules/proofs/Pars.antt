@@ -187,7 +187,7 @@ module _ (u : Tables) (t : MethodTable) (d : Method) (is : IsResolved u) (apart 
         let body_told = block-told every from d.body.stmts back below (le_refl from) rise in
         let last = block_end stmts from d.body.stmts in
         let end : IsRising last (ends d.span.end ∷ []) = arg-passes exprs (exprs-pass [] u.program.exprs tt) d.back last (ends d.span.end ∷ []) body_told.rise in
-        let walks = (body_told.tells d.span.end end.0 had (λ y v here. whole last y v here)).walks in
+        let walks = (body_told.tells d.span.end end.0 (record { had = had; all = λ y v here. whole last y v here })).walks in
         (walks.pars (Return d.span (argument k d.back)) tt, walks.scoped (Return d.span (argument k d.back)) (first_live (routine u t d)) first-begins (λ V behind. refl))
       where
         whole : (last : ℕ) → AreAll k.vars from last body

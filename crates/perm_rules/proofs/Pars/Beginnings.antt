@@ -14,7 +14,7 @@ use Rattle.perm_tree.specs.Vars.{Vars, those, plus, minus, meet, some_below}
 use Rattle.perm_rules.specs.Parts.{Context, if_known}
 use Rattle.perm_rules.specs.Pars.{tied_vars}
 use Rattle.perm_rules.specs.Scoping.{has_none, hides_tied}
-use Rattle.perm_rules.proofs.Pars.Scoped.{AreApart, known-found}
+use Rattle.perm_rules.proofs.Pars.Scoped.{AreApart, known-found, AllHad, had-left, had-right}
 
 -- ---------- lists of variables ----------
 -- a variable stands in a list
@@ -110,7 +110,7 @@ abbrev pub AreAll : List VarInfo → ℕ → ℕ → List VarInfo → Type 0
 AreAll vars lo hi ws = (y : ℕ) (v : VarInfo) → slice_get vars y ≡ Some v → (v.scope.start < lo) ⊎ ((hi ≤ v.scope.start) ⊎ IsAmong v ws)
 
 -- two stretches, one behind the other
-pub all-left : (vars : List VarInfo) (lo mid hi : ℕ) (vs ws : List VarInfo) → mid ≤ hi → AllStartIn mid hi ws → AreAll vars lo hi (vs ++ ws) → AreAll vars lo mid vs
+all-left : (vars : List VarInfo) (lo mid hi : ℕ) (vs ws : List VarInfo) → mid ≤ hi → AllStartIn mid hi ws → AreAll vars lo hi (vs ++ ws) → AreAll vars lo mid vs
 all-left vars lo mid hi vs ws more later all y v here = pick (all y v here)
   where
     part : IsAmong v vs ⊎ IsAmong v ws → (v.scope.start < lo) ⊎ ((mid ≤ v.scope.start) ⊎ IsAmong v vs)
@@ -122,7 +122,7 @@ all-left vars lo mid hi vs ws more later all y v here = pick (all y v here)
     pick (inr (inl past)) = inr (inl (omega arith))
     pick (inr (inr i)) = part (among-append v vs ws i)
 
-pub all-right : (vars : List VarInfo) (lo mid hi : ℕ) (vs ws : List VarInfo) → lo ≤ mid → AllStartIn lo mid vs → AreAll vars lo hi (vs ++ ws) → AreAll vars mid hi ws
+all-right : (vars : List VarInfo) (lo mid hi : ℕ) (vs ws : List VarInfo) → lo ≤ mid → AllStartIn lo mid vs → AreAll vars lo hi (vs ++ ws) → AreAll vars mid hi ws
 all-right vars lo mid hi vs ws low first all y v here = pick (all y v here)
   where
     part : IsAmong v vs ⊎ IsAmong v ws → (v.scope.start < mid) ⊎ ((hi ≤ v.scope.start) ⊎ IsAmong v ws)
@@ -135,13 +135,27 @@ all-right vars lo mid hi vs ws low first all y v here = pick (all y v here)
     pick (inr (inr i)) = part (among-append v vs ws i)
 
 -- a shorter stretch
-pub all-within : (vars : List VarInfo) (lo from to hi : ℕ) (ws : List VarInfo) → lo ≤ from → to ≤ hi → AreAll vars lo hi ws → AreAll vars from to ws
+all-within : (vars : List VarInfo) (lo from to hi : ℕ) (ws : List VarInfo) → lo ≤ from → to ≤ hi → AreAll vars lo hi ws → AreAll vars from to ws
 all-within vars lo from to hi ws low more all y v here = pick (all y v here)
   where
     pick : (v.scope.start < lo) ⊎ ((hi ≤ v.scope.start) ⊎ IsAmong v ws) → (v.scope.start < from) ⊎ ((to ≤ v.scope.start) ⊎ IsAmong v ws)
     pick (inl less) = inl (omega arith)
     pick (inr (inl past)) = inr (inl (omega arith))
     pick (inr (inr i)) = inr (inr i)
+
+-- the variables of a method whose scopes begin in a stretch are these
+pub record BeginIn (vars : List VarInfo) (lo hi : ℕ) (ws : List VarInfo) : Type 0 where
+  pub had : AllHad vars ws
+  pub all : AreAll vars lo hi ws
+
+pub begin-left : (vars : List VarInfo) (lo mid hi : ℕ) (vs ws : List VarInfo) → mid ≤ hi → AllStartIn mid hi ws → BeginIn vars lo hi (vs ++ ws) → BeginIn vars lo mid vs
+begin-left vars lo mid hi vs ws more later is = record { had = had-left vars vs ws is.had; all = all-left vars lo mid hi vs ws more later is.all }
+
+pub begin-right : (vars : List VarInfo) (lo mid hi : ℕ) (vs ws : List VarInfo) → lo ≤ mid → AllStartIn lo mid vs → BeginIn vars lo hi (vs ++ ws) → BeginIn vars mid hi ws
+begin-right vars lo mid hi vs ws low first is = record { had = had-right vars vs ws is.had; all = all-right vars lo mid hi vs ws low first is.all }
+
+pub begin-within : (vars : List VarInfo) (lo from to hi : ℕ) (ws : List VarInfo) → lo ≤ from → to ≤ hi → BeginIn vars lo hi ws → BeginIn vars from to ws
+begin-within vars lo from to hi ws low more is = record { had = is.had; all = all-within vars lo from to hi ws low more is.all }
 
 -- the name of a variable that is known where the name stands means one that is there
 known-there : (i : Ident) (w : VarInfo) → is_known_as i w ≡ true → (vars : List VarInfo) (z : ℕ) → slice_get vars z ≡ Some w → (v : VarInfo) × (slice_get vars (var_place vars i) ≡ Some v)

@@ -16,8 +16,7 @@ use Rattle.perm_tree.specs.Scopes.{declared_by, declared_if, known_until, end_if
 use Rattle.perm_tree.specs.TextOrder.{Mark, IsRising, Marks, block_marks}
 use Rattle.perm_tree.specs.Vars.{those}
 use Rattle.perm_rules.specs.Parts.{Context}
-use Rattle.perm_rules.proofs.Pars.Scoped.{AllHad, had-left, had-right}
-use Rattle.perm_rules.proofs.Pars.Beginnings.{IsAmong, among-append, among-none, Rows, rows-none, rows-more, rows-append, AllNamed, named-rows, AreAll, all-left, all-right, AllBegin, declared-listed}
+use Rattle.perm_rules.proofs.Pars.Beginnings.{IsAmong, among-append, among-none, Rows, rows-none, rows-more, rows-append, AllNamed, named-rows, AreAll, begin-left, begin-right, AllBegin, declared-listed, BeginIn}
 use Rattle.perm_rules.proofs.Pars.CodeWalks.{Encloses, walks-same, encloses-end}
 use Rattle.perm_rules.proofs.Pars.OwnVariables.{MethodFacts}
 use Rattle.perm_rules.proofs.Pars.Tellings.{Earlier, Tells, tells-none, tells-then, outer-begins, begins-sooner, Ends, TellsIn, IsTold}
@@ -58,7 +57,7 @@ module _ (earlier : Earlier) where
     pub room : lo ≤ hi
     pub rise : IsRising hi rest
     pub rows : (end : ℕ) → hi ≤ end → Rows lo hi end (ws end)
-    pub tells : (end : ℕ) → hi ≤ end → AllHad vars (ws end) → AreAll vars lo hi (ws end) → Tells facts lo hi end own f
+    pub tells : (end : ℕ) → hi ≤ end → BeginIn vars lo hi (ws end) → Tells facts lo hi end own f
     pub known : (end : ℕ) → hi ≤ end → (x : ℕ) (v : VarInfo) → slice_get vars x ≡ Some v → IsAmong v (ws end) → hi < v.scope.end → those own x ≡ true
 
   abbrev pub BlockTold : ℕ → List Mark → List ℕ → Type 0
@@ -69,7 +68,7 @@ module _ (earlier : Earlier) where
     room = le_refl lo;
     rise = rise;
     rows = λ end more. rows-none lo lo end;
-    tells = λ end more had all. tells-none facts lo lo end (λ code. code) (walks-same vars c lo end) (λ code x e. inl e);
+    tells = λ end more these. tells-none facts lo lo end (λ code. code) (walks-same vars c lo end) (λ code x e. inl e);
     known = λ end more x v here at past. absurd (among-none v at);
   }
   block-told lo (i ∷ is) rest below up rise = go (earlier.told i below.0) (λ from higher r. block-told from is rest below.1 higher r)
@@ -103,7 +102,7 @@ module _ (earlier : Earlier) where
                 room = omega arith;
                 rise = later.rise;
                 rows = λ end last. all-rows end last named told.rows (later.rows end last) room on;
-                tells = λ end last had whole. walk end last named told.rows (later.rows end last) room on had whole (told.walk end (omega arith)) (later.tells end last);
+                tells = λ end last whole. walk end last named told.rows (later.rows end last) room on whole (told.walk end (omega arith)) (later.tells end last);
                 known = λ end last x v here at past. own-known end last named told.rows on x v here (later.known end last x v here) at past;
               })
             where
@@ -136,18 +135,17 @@ module _ (earlier : Earlier) where
                   pick (inl d) = list_any-append (nat_eq x) front (own_vars k is) ∙ or_left (those front x) (those (own_vars k is) x) (declared-listed vars lo mid end ds (omega arith) named facts.apart x v here d)
                   pick (inr i) = inside (among-append v ws (others end) i)
 
-              walk : (end : ℕ) → hi ≤ end → AllNamed lo mid ds → Rows lo mid mid ws → Rows mid hi end (others end) → lo ≤ mid → mid ≤ hi → AllHad vars (map (known_until end) ds ++ (ws ++ others end))
-                  → AreAll vars lo hi (map (known_until end) ds ++ (ws ++ others end)) → TellsIn facts lo mid ds ws f end → (AllHad vars (others end) → AreAll vars mid hi (others end) → Tells facts mid hi end (own_vars k is) (sequence fs is))
+              walk : (end : ℕ) → hi ≤ end → AllNamed lo mid ds → Rows lo mid mid ws → Rows mid hi end (others end) → lo ≤ mid → mid ≤ hi → BeginIn vars lo hi (map (known_until end) ds ++ (ws ++ others end))
+                  → TellsIn facts lo mid ds ws f end → (BeginIn vars mid hi (others end) → Tells facts mid hi end (own_vars k is) (sequence fs is))
                   → Tells facts lo hi end (map (λ d. var_at k d.name) ds ++ own_vars k is) (λ code. f (sequence fs is code))
-              walk end last named rows behind room on had whole first second =
+              walk end last named rows behind room on whole first second =
                   let declared = map (known_until end) ds in
-                  let behind_had = had-right vars declared (ws ++ others end) had in
                   let regroup : (declared ++ ws) ++ others end ≡ declared ++ (ws ++ others end) = append_assoc declared ws (others end) in
-                  let grouped : AreAll vars lo hi ((declared ++ ws) ++ others end) = subst (AreAll vars lo hi) (sym regroup) whole in
+                  let grouped : BeginIn vars lo hi ((declared ++ ws) ++ others end) = subst (BeginIn vars lo hi) (sym regroup) whole in
                   let front : Rows lo mid end (declared ++ ws) = rows-append lo mid end declared ws (named-rows lo mid end ds named) (rows-more lo lo mid mid mid end ws (le_refl lo) (le_refl mid) (omega arith) rows) in
-                  tells-then facts lo mid hi end ds ws (others end) (own_vars k is) f (sequence fs is) room on (omega arith) named rows behind.starts whole
-                  (first (had-left vars declared (ws ++ others end) had) (had-left vars ws (others end) behind_had) (all-left vars lo mid hi (declared ++ ws) (others end) on behind.starts grouped))
-                  (second (had-right vars ws (others end) behind_had) (all-right vars lo mid hi (declared ++ ws) (others end) room front.starts grouped))
+                  tells-then facts lo mid hi end ds ws (others end) (own_vars k is) f (sequence fs is) room on (omega arith) named rows behind.starts whole.all
+                  (first (begin-left vars lo mid hi (declared ++ ws) (others end) on behind.starts grouped))
+                  (second (begin-right vars lo mid hi (declared ++ ws) (others end) room front.starts grouped))
 
   -- the code of a block in braces, between two places; what stands in it and isn't its own begins before a third one
   pub record InBraces (from lo hi : ℕ) (is : List ℕ) : Type 0 where
@@ -160,7 +158,7 @@ module _ (earlier : Earlier) where
     pub room : lo ≤ hi
     pub rise : IsRising hi rest
     pub rows : Rows lo hi hi (braced_vars stmts inner is)
-    pub block : AllHad vars (braced_vars stmts inner is) → AreAll vars lo hi (braced_vars stmts inner is) → InBraces lo lo hi is
+    pub block : BeginIn vars lo hi (braced_vars stmts inner is) → InBraces lo lo hi is
 
   braced : (lo hi : ℕ) (is : List ℕ) → Tells facts lo hi hi (own_vars k is) (sequence fs is) → InBraces lo lo hi is
   braced lo hi is t = record {
@@ -174,7 +172,7 @@ module _ (earlier : Earlier) where
     room = le_refl lo;
     rise = rise;
     rows = rows-none lo lo lo;
-    block = λ had all. braced lo lo [] (tells-none facts lo lo lo (λ code. code) (walks-same vars c lo lo) (λ code x e. inl e));
+    block = λ these. braced lo lo [] (tells-none facts lo lo lo (λ code. code) (walks-same vars c lo lo) (λ code x e. inl e));
   }
   one-told lo (i ∷ is) rest below up rise = go (earlier.told i below.0) (block-told lo (i ∷ is) rest below up rise)
     where
@@ -184,8 +182,7 @@ module _ (earlier : Earlier) where
         room = told.room;
         rise = told.rise;
         rows = subst (λ e. Rows lo hi hi (block_vars stmts inner e (i ∷ is))) same (told.rows hi (le_refl hi));
-        block = λ had all. braced lo hi (i ∷ is)
-            (told.tells hi (le_refl hi) (subst (λ e. AllHad vars (block_vars stmts inner e (i ∷ is))) (sym same) had) (subst (λ e. AreAll vars lo hi (block_vars stmts inner e (i ∷ is))) (sym same) all));
+        block = λ these. braced lo hi (i ∷ is) (told.tells hi (le_refl hi) (subst (λ e. BeginIn vars lo hi (block_vars stmts inner e (i ∷ is))) (sym same) these));
       }
         where
           hi : ℕ
@@ -202,8 +199,7 @@ module _ (earlier : Earlier) where
     pub more : mid ≤ hi
     pub rise : IsRising hi rest
     pub rows : Rows lo hi hi (braced_vars stmts inner is ++ braced_vars stmts inner js)
-    pub blocks : AllHad vars (braced_vars stmts inner is ++ braced_vars stmts inner js) → AreAll vars lo hi (braced_vars stmts inner is ++ braced_vars stmts inner js)
-        → InBraces lo lo mid is × InBraces lo mid hi js
+    pub blocks : BeginIn vars lo hi (braced_vars stmts inner is ++ braced_vars stmts inner js) → InBraces lo lo mid is × InBraces lo mid hi js
 
   pub two-told : (lo : ℕ) (is js : List ℕ) (rest : List Mark) → AllBelow n is → AllBelow n js → base ≤ lo → IsRising lo (block_marks ms is (block_marks ms js rest)) → Two lo rest is js
   two-told lo is js rest below under up rise = go (one-told lo is (block_marks ms js rest) below up rise)
@@ -231,10 +227,9 @@ module _ (earlier : Earlier) where
             more = right.room;
             rise = right.rise;
             rows = rows-append lo right.hi right.hi vs ws (rows-more lo lo left.hi right.hi left.hi right.hi vs (le_refl lo) more more left.rows) (rows-more lo left.hi right.hi right.hi right.hi right.hi ws low (le_refl right.hi) (le_refl right.hi) right.rows);
-            blocks = λ had all. (
-              left.block (had-left vars vs ws had) (all-left vars lo left.hi right.hi vs ws more right.rows.starts all),
-              sooner left.rows (all-left vars lo left.hi right.hi vs ws more right.rows.starts all) (right.block (had-right vars vs ws had) (all-right vars lo left.hi right.hi vs ws low left.rows.starts all)),
-            );
+            blocks = λ these.
+                let front = begin-left vars lo left.hi right.hi vs ws more right.rows.starts these in
+                (left.block front, sooner left.rows front.all (right.block (begin-right vars lo left.hi right.hi vs ws low left.rows.starts these)));
           }
 
       go : One lo (block_marks ms js rest) is → Two lo rest is js

@@ -17,8 +17,8 @@ use Rattle.perm_tree.specs.TextOrder.{Mark, names, ends, IsRising, Marks, marks_
 use Rattle.perm_tree.specs.Vars.{Vars, none, just, plus, IsWithin}
 use Rattle.perm_rules.specs.Parts.{Context}
 use Rattle.perm_rules.specs.Pars.{touched_by}
-use Rattle.perm_rules.proofs.Pars.Scoped.{Meets, meets-more, named-meets, AllHad}
-use Rattle.perm_rules.proofs.Pars.Beginnings.{among-none, Rows, rows-none, rows-more, AllNamed, named-rows, AreAll, all-right, all-within, Begins, AllBegin}
+use Rattle.perm_rules.proofs.Pars.Scoped.{Meets, meets-more, named-meets}
+use Rattle.perm_rules.proofs.Pars.Beginnings.{among-none, Rows, rows-none, rows-more, AllNamed, named-rows, AreAll, begin-right, begin-within, Begins, AllBegin, BeginIn}
 use Rattle.perm_rules.proofs.Pars.StandingTerms.{Stands, stands-name, stands-past, stands-then, expr-at, arg-stands, call-stands}
 use Rattle.perm_rules.proofs.Pars.CodeWalks.{Walks, walks-more, do-walks, if-walks, par-walks, while-walks, encloses-sooner, shares-plainly}
 use Rattle.perm_rules.proofs.Pars.OwnVariables.{MethodFacts, OwnLie, own-one, own-begun}
@@ -73,9 +73,9 @@ module _ (earlier : Earlier) where
           room = told.room;
           rise = told.rise;
           rows = told.rows;
-          walk = λ end more had under whole.
+          walk = λ end more whole.
               tells-none facts lo s.span.end end (Do s.span i) (told.walk end more)
-              (opens-none facts lo s.span.end s.span.end [] (Do s.span i) (le_refl s.span.end) (λ v at. absurd (among-none v at)) whole (walks-open facts lo s.span.end end (Do s.span i) (told.walk end more)));
+              (opens-none facts lo s.span.end s.span.end [] (Do s.span i) (le_refl s.span.end) (λ v at. absurd (among-none v at)) whole.all (walks-open facts lo s.span.end end (Do s.span i) (told.walk end more)));
         },
       )
 
@@ -109,7 +109,7 @@ module _ (earlier : Earlier) where
           room = omega arith;
           rise = rise.1.1;
           rows = rows-none lo s.span.end s.span.end;
-          walk = λ end more had under whole. walk end more low last had whole;
+          walk = λ end more whole. walk end more low last whole;
         },
       )
     where
@@ -122,17 +122,17 @@ module _ (earlier : Earlier) where
       named : lo ≤ x.span.start → suc x.span.start ≤ s.span.end → AllNamed lo s.span.end (record { ty = t; name = x } ∷ [])
       named low last = ((low, omega arith), tt)
 
-      walk : (end : ℕ) → s.span.end ≤ end → lo ≤ x.span.start → suc x.span.start ≤ s.span.end → AllHad vars (map (known_until end) ds) → AreAll vars lo s.span.end (map (known_until end) ds ++ []) → Tells facts lo s.span.end end (var_at k x ∷ []) f
-      walk end more low last had whole =
-          let own : OwnLie facts lo end (record { ty = t; name = x } ∷ []) = own-one facts lo end (record { ty = t; name = x }) low had.0 in
+      walk : (end : ℕ) → s.span.end ≤ end → lo ≤ x.span.start → suc x.span.start ≤ s.span.end → BeginIn vars lo s.span.end (map (known_until end) ds ++ []) → Tells facts lo s.span.end end (var_at k x ∷ []) f
+      walk end more low last whole =
+          let own : OwnLie facts lo end (record { ty = t; name = x } ∷ []) = own-one facts lo end (record { ty = t; name = x }) low whole.had.0 in
           let walks : Walks vars c lo s.span.end end f = do-walks vars c lo s.span.end end s.span (Declare (var_at k x)) (omega arith)
           (λ z e. subst (Meets vars lo s.span.end) (sym (eqb-true z (var_at k x) e)) (named-meets vars lo s.span.end x low (omega arith)))
           (λ z e. inr (own z (or_left (nat_eq z (var_at k x)) false e))) in
           record {
             walks = walks;
             lies = own;
-            fresh = own-begun facts lo s.span.end end ds more ((low, omega arith), tt) had;
-            opens = opens-own facts lo s.span.end s.span.end end ds [] f (le_refl s.span.end) more ((low, omega arith), tt) (λ v at. absurd (among-none v at)) whole (walks-open facts lo s.span.end end f walks);
+            fresh = own-begun facts lo s.span.end end ds more ((low, omega arith), tt) whole.had;
+            opens = opens-own facts lo s.span.end s.span.end end ds [] f (le_refl s.span.end) more ((low, omega arith), tt) (λ v at. absurd (among-none v at)) whole.all (walks-open facts lo s.span.end end f walks);
           }
   kind-told count lo s (AssignStmt None x r) rest placed up rise =
       let low : lo ≤ x.span.start = rise.0 in
@@ -142,7 +142,7 @@ module _ (earlier : Earlier) where
           room = let more : suc x.span.start ≤ s.span.end = told.room in omega arith;
           rise = told.rise;
           rows = rows-more lo (suc x.span.start) s.span.end s.span.end s.span.end s.span.end ws (omega arith) (le_refl s.span.end) (le_refl s.span.end) told.rows;
-          walk = λ end more had under whole. walk end low told.room told.rows whole (told.walk end more under (all-within vars lo (suc x.span.start) s.span.end s.span.end ws (omega arith) (le_refl s.span.end) whole));
+          walk = λ end more whole. walk end low told.room told.rows whole.all (told.walk end more (begin-within vars lo (suc x.span.start) s.span.end s.span.end ws (omega arith) (le_refl s.span.end) whole));
         },
       )
     where
@@ -163,8 +163,8 @@ module _ (earlier : Earlier) where
           room = omega arith;
           rise = told.rise;
           rows = rows-more lo (suc x.span.start) s.span.end s.span.end s.span.end s.span.end ws (omega arith) (le_refl s.span.end) (le_refl s.span.end) told.rows;
-          walk = λ end last had under whole. walk end last low more had told.rows whole
-              (told.walk end last under (all-right vars lo (suc x.span.start) s.span.end (map (known_until end) ds) ws (omega arith) (named-rows lo (suc x.span.start) end ds ((low, omega arith), tt)).starts whole));
+          walk = λ end last whole. walk end last low more told.rows whole
+              (told.walk end last (begin-right vars lo (suc x.span.start) s.span.end (map (known_until end) ds) ws (omega arith) (named-rows lo (suc x.span.start) end ds ((low, omega arith), tt)).starts whole));
         },
       )
     where
@@ -177,13 +177,13 @@ module _ (earlier : Earlier) where
       f : Code → Code
       f = assignment k fs s (var_at k x) r
 
-      walk : (end : ℕ) → s.span.end ≤ end → lo ≤ x.span.start → suc x.span.start ≤ s.span.end → AllHad vars (map (known_until end) ds) → Rows (suc x.span.start) s.span.end s.span.end ws → AreAll vars lo s.span.end (map (known_until end) ds ++ ws)
+      walk : (end : ℕ) → s.span.end ≤ end → lo ≤ x.span.start → suc x.span.start ≤ s.span.end → Rows (suc x.span.start) s.span.end s.span.end ws → BeginIn vars lo s.span.end (map (known_until end) ds ++ ws)
           → Walks vars c lo s.span.end end f × Opens facts (suc x.span.start) f → Tells facts lo s.span.end end (var_at k x ∷ []) f
-      walk end last low room had rows whole (walks, opens) = record {
+      walk end last low room rows whole (walks, opens) = record {
         walks = walks;
-        lies = own-one facts lo end (record { ty = t; name = x }) low had.0;
-        fresh = own-begun facts lo s.span.end end ds last ((low, omega arith), tt) had;
-        opens = opens-own facts lo (suc x.span.start) s.span.end end ds ws f room last ((low, omega arith), tt) (λ v i. (rows.starts v i).behind) whole opens;
+        lies = own-one facts lo end (record { ty = t; name = x }) low whole.had.0;
+        fresh = own-begun facts lo s.span.end end ds last ((low, omega arith), tt) (whole.had.0, tt);
+        opens = opens-own facts lo (suc x.span.start) s.span.end end ds ws f room last ((low, omega arith), tt) (λ v i. (rows.starts v i).behind) whole.all opens;
       }
   kind-told count lo s (SetField y f a) rest placed up rise =
       let on = arg_marks exprs a (ends s.span.end ∷ rest) in
@@ -237,7 +237,7 @@ module _ (earlier : Earlier) where
                   room = omega arith;
                   rise = two.rise.1;
                   rows = rows-more lo s.head.end two.hi s.span.end two.hi s.span.end ws (omega arith) last last two.rows;
-                  walk = λ end behind had under whole. walk end behind two.mid two.hi room more last two.rows whole (two.blocks under (all-within vars lo s.head.end two.hi s.span.end ws (omega arith) last whole));
+                  walk = λ end behind whole. walk end behind two.mid two.hi room more last two.rows whole.all (two.blocks (begin-within vars lo s.head.end two.hi s.span.end ws (omega arith) last whole));
                 },
               )
             where
@@ -284,7 +284,7 @@ module _ (earlier : Earlier) where
                   room = omega arith;
                   rise = one.rise.1;
                   rows = rows-more lo s.head.end one.hi s.span.end one.hi s.span.end ws (omega arith) last last one.rows;
-                  walk = λ end behind had under whole. walk end behind one.hi room last one.rows whole (one.block under (all-within vars lo s.head.end one.hi s.span.end ws (omega arith) last whole));
+                  walk = λ end behind whole. walk end behind one.hi room last one.rows whole.all (one.block (begin-within vars lo s.head.end one.hi s.span.end ws (omega arith) last whole));
                 },
               )
             where
@@ -336,7 +336,7 @@ module _ (earlier : Earlier) where
               room = omega arith;
               rise = two.rise.1;
               rows = rows-more lo s.head.end two.hi s.span.end two.hi s.span.end ws head last last two.rows;
-              walk = λ end behind had under whole. walk end behind two.mid two.hi room more last two.rows whole (two.blocks under (all-within vars lo s.head.end two.hi s.span.end ws head last whole));
+              walk = λ end behind whole. walk end behind two.mid two.hi room more last two.rows whole.all (two.blocks (begin-within vars lo s.head.end two.hi s.span.end ws head last whole));
             },
           )
         where

@@ -19,8 +19,8 @@ use Rattle.perm_tree.specs.Vars.{Vars, none, just, those, plus, IsWithin}
 use Rattle.perm_tree.proofs.Passing.{past-name}
 use Rattle.perm_rules.specs.Parts.{Context}
 use Rattle.perm_rules.specs.Pars.{touched_by}
-use Rattle.perm_rules.proofs.Pars.Scoped.{Meets, meets-more, lies-more, named-meets, known-found, AllHad}
-use Rattle.perm_rules.proofs.Pars.Beginnings.{IsAmong, among-none, Rows, rows-none, rows-more, AreAll, all-within, Begins, AllBegin, begun-more, hides-begin, tied-hidden}
+use Rattle.perm_rules.proofs.Pars.Scoped.{Meets, meets-more, lies-more, named-meets, known-found}
+use Rattle.perm_rules.proofs.Pars.Beginnings.{IsAmong, among-none, Rows, rows-none, rows-more, AreAll, begin-within, Begins, AllBegin, begun-more, hides-begin, tied-hidden, BeginIn}
 use Rattle.perm_rules.proofs.Pars.StandingTerms.{Stands, stands-none, stands-name, stands-less, stands-also, stands-past, stands-then, expr-at, arg-stands, args_mention, call-stands}
 use Rattle.perm_rules.proofs.Pars.CodeWalks.{Walks, Recovers, walks-more, recover-walks, encloses-give}
 use Rattle.perm_rules.proofs.Pars.OwnVariables.{MethodFacts}
@@ -63,7 +63,7 @@ module _ (earlier : Earlier) where
 
   -- an assignment to a variable that stands before its right side
   abbrev RhsTold : ℕ → ℕ → List Mark → Stmt → List VarInfo → (Code → Code) → Type 0
-  RhsTold lo from rest s ws f = Ends facts from s.span.end rest ws (λ end. AllHad vars ws → AreAll vars from s.span.end ws → Walks vars c lo s.span.end end f × Opens facts from f)
+  RhsTold lo from rest s ws f = Ends facts from s.span.end rest ws (λ end. BeginIn vars from s.span.end ws → Walks vars c lo s.span.end end f × Opens facts from f)
 
   plain-told : (lo from : ℕ) (s : Stmt) (x : ℕ) (i : Instruction) (G : Vars) (rest : List Mark) → lo ≤ from → Meets vars lo from x → Stands vars from (ends s.span.end ∷ rest) G → IsWithin (mentions i) (plus (just x) G)
       → IsWithin (touched_by i) (plus (consumes i) (assigns i)) → RhsTold lo from rest s [] (Do s.span i)
@@ -79,9 +79,9 @@ module _ (earlier : Earlier) where
             room = more;
             rise = told.rise;
             rows = rows-none from s.span.end s.span.end;
-            walk = λ end last had whole. (
+            walk = λ end last whole. (
               told.walk end last,
-              opens-none facts from s.span.end s.span.end [] (Do s.span i) (le_refl s.span.end) (λ v at. absurd (among-none v at)) whole (walks-open facts lo s.span.end end (Do s.span i) (told.walk end last)),
+              opens-none facts from s.span.end s.span.end [] (Do s.span i) (le_refl s.span.end) (λ v at. absurd (among-none v at)) whole.all (walks-open facts lo s.span.end end (Do s.span i) (told.walk end last)),
             );
           }
 
@@ -152,12 +152,12 @@ module _ (earlier : Earlier) where
             room = omega arith;
             rise = told.rise.1.1.1;
             rows = rows-more from at last s.span.end give.end s.span.end ws head (omega arith) at_end (told.rows give.end closed);
-            walk = λ end more had whole. walk end more head room at_w at_give at_end had whole (told.tells give.end closed had (all-within vars from at last s.span.end ws head (omega arith) whole)) (told.rows give.end closed) (told.known give.end closed);
+            walk = λ end more whole. walk end more head room at_w at_give at_end whole.all (told.tells give.end closed (begin-within vars from at last s.span.end ws head (omega arith) whole)) (told.rows give.end closed) (told.known give.end closed);
           }
         where
-          walk : (end : ℕ) → s.span.end ≤ end → from ≤ at → at ≤ last → last ≤ w.span.start → suc w.span.start ≤ give.end → give.end ≤ s.span.end → AllHad vars ws → AreAll vars from s.span.end ws → Tells facts at last give.end own (sequence fs b.stmts)
+          walk : (end : ℕ) → s.span.end ≤ end → from ≤ at → at ≤ last → last ≤ w.span.start → suc w.span.start ≤ give.end → give.end ≤ s.span.end → AreAll vars from s.span.end ws → Tells facts at last give.end own (sequence fs b.stmts)
               → Rows at last give.end ws → ((y : ℕ) (v : VarInfo) → slice_get vars y ≡ Some v → IsAmong v ws → last < v.scope.end → those own y ≡ true) → Walks vars c lo s.span.end end f × Opens facts from f
-          walk end more head room at_w at_give at_end had whole t rows known = (walked, opens-none facts from at s.span.end ws f (omega arith) (λ v i. (rows.starts v i).behind) whole opened)
+          walk end more head room at_w at_give at_end whole t rows known = (walked, opens-none facts from at s.span.end ws f (omega arith) (λ v i. (rows.starts v i).behind) whole opened)
             where
               assigned : (z : ℕ) → just x z ≡ true → Meets vars lo give.end z
               assigned z e = subst (Meets vars lo give.end) (sym (eqb-true z x e)) (meets-more vars lo from lo give.end x (omega arith) (omega arith) meets)

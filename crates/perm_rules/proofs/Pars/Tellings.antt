@@ -14,8 +14,8 @@ use Rattle.perm_tree.specs.TextOrder.{Mark, ends, IsRising, Marks}
 use Rattle.perm_tree.specs.Vars.{those, plus, IsWithin}
 use Rattle.perm_rules.specs.Parts.{Context}
 use Rattle.perm_rules.specs.Pars.{touched_by}
-use Rattle.perm_rules.proofs.Pars.Scoped.{Meets, AllLie, meets-more, AllHad}
-use Rattle.perm_rules.proofs.Pars.Beginnings.{IsAmong, among-append, AllStartIn, Rows, rows-none, AllNamed, AreAll, Begins, AllBegin, AreBegun, declared-listed}
+use Rattle.perm_rules.proofs.Pars.Scoped.{Meets, AllLie, meets-more}
+use Rattle.perm_rules.proofs.Pars.Beginnings.{IsAmong, among-append, AllStartIn, Rows, rows-none, AllNamed, AreAll, Begins, AllBegin, AreBegun, declared-listed, BeginIn}
 use Rattle.perm_rules.proofs.Pars.StandingTerms.{Stands}
 use Rattle.perm_rules.proofs.Pars.CodeWalks.{Walks, walks-then, do-walks}
 use Rattle.perm_rules.proofs.Pars.OwnVariables.{MethodFacts, own-none, own-both, begun-both}
@@ -239,7 +239,7 @@ module _ (facts : MethodFacts) where
 
   -- what a code tells, where the variables that it and the blocks within it declare are those of the method that begin in its stretch
   abbrev pub TellsIn : ℕ → ℕ → List FieldDecl → List VarInfo → (Code → Code) → ℕ → Type 0
-  TellsIn lo hi ds ws f end = AllHad vars (map (known_until end) ds) → AllHad vars ws → AreAll vars lo hi (map (known_until end) ds ++ ws) → Tells lo hi end (map (λ d. var_at k d.name) ds) f
+  TellsIn lo hi ds ws f end = BeginIn vars lo hi (map (known_until end) ds ++ ws) → Tells lo hi end (map (λ d. var_at k d.name) ds) f
 
   -- the marks of a statement tell so of its code
   abbrev pub TellsOf : Stmt → Marks → (Code → Code) → List VarInfo → Type 0
