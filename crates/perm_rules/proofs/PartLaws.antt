@@ -82,9 +82,9 @@ module _ (S T : Vars) (w : IsWithin S T) where
   any_in_argument-within (Expression e) h = any_in_term-within e h
   any_in_argument-within (Consumed y) h = w y h
 
-  any_in_arguments-within : (args : List Argument) → list_any (any_in_argument S) args ≡ true → list_any (any_in_argument T) args ≡ true
-  any_in_arguments-within [] h = h
-  any_in_arguments-within (a ∷ rest) h = or-implies _ _ _ _ (any_in_argument-within a) (any_in_arguments-within rest) h
+  arguments-within : (args : List Argument) → list_any (any_in_argument S) args ≡ true → list_any (any_in_argument T) args ≡ true
+  arguments-within [] h = h
+  arguments-within (a ∷ rest) h = or-implies _ _ _ _ (any_in_argument-within a) (arguments-within rest) h
 
   any_in_option-within : (o : Option ℕ) → any_in_option S o ≡ true → any_in_option T o ≡ true
   any_in_option-within None h = h
@@ -102,7 +102,7 @@ module _ (S T : Vars) (w : IsWithin S T) where
   any_in_instruction-within (StoreField y f a) h = or-implies _ _ _ _ (w y) (any_in_argument-within a) h
   any_in_instruction-within (StoreItem y i e) h = or-implies _ _ _ _ (w y) (or-implies _ _ _ _ (any_in_term-within i) (any_in_term-within e)) h
   any_in_instruction-within (Invoke into tie consumed y routine args) h =
-      or-implies _ _ _ _ (any_in_option-within into) (or-implies _ _ _ _ (w y) (any_in_arguments-within args)) h
+      or-implies _ _ _ _ (any_in_option-within into) (or-implies _ _ _ _ (w y) (arguments-within args)) h
   any_in_instruction-within (Print e) h = any_in_term-within e h
 
   pub any_in_part-within : (p : Part) → any_in_part S p ≡ true → any_in_part T p ≡ true

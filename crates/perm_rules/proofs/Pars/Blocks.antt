@@ -153,36 +153,36 @@ module _ (earlier : Earlier) where
     pub begins : AllBegin vars from (block_mentions (own_vars k is) (sequence fs is End))
 
   -- a block in braces, and the marks behind it
-  pub record One (lo : ℕ) (rest : List Mark) (is : List ℕ) : Type 0 where
+  pub record BracedTold (lo : ℕ) (rest : List Mark) (is : List ℕ) : Type 0 where
     pub hi : ℕ
     pub room : lo ≤ hi
     pub rise : IsRising hi rest
     pub rows : Rows lo hi hi (braced_vars stmts inner is)
     pub block : BeginIn vars lo hi (braced_vars stmts inner is) → InBraces lo lo hi is
 
-  braced : (lo hi : ℕ) (is : List ℕ) → Tells facts lo hi hi (own_vars k is) (sequence fs is) → InBraces lo lo hi is
-  braced lo hi is t = record {
+  in-braces : (lo hi : ℕ) (is : List ℕ) → Tells facts lo hi hi (own_vars k is) (sequence fs is) → InBraces lo lo hi is
+  in-braces lo hi is t = record {
     encloses = encloses-end vars c lo hi (own_vars k is) (sequence fs is) t.walks t.lies t.fresh;
     begins = outer-begins facts lo (own_vars k is) (sequence fs is) End (λ x e. absurd (let no : ⊥ = cc e in no)) t.opens;
   }
 
-  pub one-told : (lo : ℕ) (is : List ℕ) (rest : List Mark) → AllBelow n is → base ≤ lo → IsRising lo (block_marks ms is rest) → One lo rest is
-  one-told lo [] rest below up rise = record {
+  pub braced-told : (lo : ℕ) (is : List ℕ) (rest : List Mark) → AllBelow n is → base ≤ lo → IsRising lo (block_marks ms is rest) → BracedTold lo rest is
+  braced-told lo [] rest below up rise = record {
     hi = lo;
     room = le_refl lo;
     rise = rise;
     rows = rows-none lo lo lo;
-    block = λ these. braced lo lo [] (tells-none facts lo lo lo (λ code. code) (walks-same vars c lo lo) (λ code x e. inl e));
+    block = λ these. in-braces lo lo [] (tells-none facts lo lo lo (λ code. code) (walks-same vars c lo lo) (λ code x e. inl e));
   }
-  one-told lo (i ∷ is) rest below up rise = go (earlier.told i below.0) (block-told lo (i ∷ is) rest below up rise)
+  braced-told lo (i ∷ is) rest below up rise = go (earlier.told i below.0) (block-told lo (i ∷ is) rest below up rise)
     where
-      go : IsTold facts ms fs inner i → BlockTold lo rest (i ∷ is) → One lo rest (i ∷ is)
+      go : IsTold facts ms fs inner i → BlockTold lo rest (i ∷ is) → BracedTold lo rest (i ∷ is)
       go (s, here, tells) told = record {
         hi = hi;
         room = told.room;
         rise = told.rise;
         rows = subst (λ e. Rows lo hi hi (block_vars stmts inner e (i ∷ is))) same (told.rows hi (le_refl hi));
-        block = λ these. braced lo hi (i ∷ is) (told.tells hi (le_refl hi) (subst (λ e. BeginIn vars lo hi (block_vars stmts inner e (i ∷ is))) (sym same) these));
+        block = λ these. in-braces lo hi (i ∷ is) (told.tells hi (le_refl hi) (subst (λ e. BeginIn vars lo hi (block_vars stmts inner e (i ∷ is))) (sym same) these));
       }
         where
           hi : ℕ
@@ -192,7 +192,7 @@ module _ (earlier : Earlier) where
           same = ap (λ (o : Option Stmt). block_end stmts (end_if lo o) is) here ∙ sym (ap (λ (o : Option Stmt). block_end stmts (end_if 0 o) is) here)
 
   -- two blocks in braces, and the marks behind them
-  pub record Two (lo : ℕ) (rest : List Mark) (is js : List ℕ) : Type 0 where
+  pub record BothTold (lo : ℕ) (rest : List Mark) (is js : List ℕ) : Type 0 where
     pub mid : ℕ
     pub hi : ℕ
     pub low : lo ≤ mid
@@ -201,8 +201,8 @@ module _ (earlier : Earlier) where
     pub rows : Rows lo hi hi (braced_vars stmts inner is ++ braced_vars stmts inner js)
     pub blocks : BeginIn vars lo hi (braced_vars stmts inner is ++ braced_vars stmts inner js) → InBraces lo lo mid is × InBraces lo mid hi js
 
-  pub two-told : (lo : ℕ) (is js : List ℕ) (rest : List Mark) → AllBelow n is → AllBelow n js → base ≤ lo → IsRising lo (block_marks ms is (block_marks ms js rest)) → Two lo rest is js
-  two-told lo is js rest below under up rise = go (one-told lo is (block_marks ms js rest) below up rise)
+  pub both-told : (lo : ℕ) (is js : List ℕ) (rest : List Mark) → AllBelow n is → AllBelow n js → base ≤ lo → IsRising lo (block_marks ms is (block_marks ms js rest)) → BothTold lo rest is js
+  both-told lo is js rest below under up rise = go (braced-told lo is (block_marks ms js rest) below up rise)
     where
       vs : List VarInfo
       vs = braced_vars stmts inner is
@@ -216,7 +216,7 @@ module _ (earlier : Earlier) where
         begins = λ x e. begins-sooner facts lo mid hi x vs rows all (block.encloses.stands x (and_parts (mentioned (sequence fs js End) x) (not (those (own_vars k js) x)) e).0) (block.begins x e);
       }
 
-      both : (left : One lo (block_marks ms js rest) is) → One left.hi rest js → Two lo rest is js
+      both : (left : BracedTold lo (block_marks ms js rest) is) → BracedTold left.hi rest js → BothTold lo rest is js
       both left right =
           let low : lo ≤ left.hi = left.room in
           let more : left.hi ≤ right.hi = right.room in
@@ -232,8 +232,8 @@ module _ (earlier : Earlier) where
                 (left.block front, sooner left.rows front.all (right.block (begin-right vars lo left.hi right.hi vs ws low left.rows.starts these)));
           }
 
-      go : One lo (block_marks ms js rest) is → Two lo rest is js
-      go left = let low : lo ≤ left.hi = left.room in both left (one-told left.hi js rest under (omega arith) left.rise)
+      go : BracedTold lo (block_marks ms js rest) is → BothTold lo rest is js
+      go left = let low : lo ≤ left.hi = left.room in both left (braced-told left.hi js rest under (omega arith) left.rise)
 
   pub else-below : (b : Option Block) → ElseBelow n b → AllBelow n (else_stmts b)
   else-below None below = below

@@ -22,8 +22,8 @@ use Rattle.perm_rules.proofs.Pars.Beginnings.{among-none, Rows, rows-none, rows-
 use Rattle.perm_rules.proofs.Pars.StandingTerms.{Stands, stands-name, stands-past, stands-then, expr-at, arg-stands, call-stands}
 use Rattle.perm_rules.proofs.Pars.CodeWalks.{Walks, walks-more, do-walks, if-walks, par-walks, while-walks, encloses-sooner, shares-plainly}
 use Rattle.perm_rules.proofs.Pars.OwnVariables.{MethodFacts, OwnLie, own-one, own-begun}
-use Rattle.perm_rules.proofs.Pars.Tellings.{Earlier, Opens, walks-open, opens-own, opens-none, Tells, tells-none, Ends, simple, TellsIn}
-use Rattle.perm_rules.proofs.Pars.Blocks.{InBraces, One, one-told, Two, two-told, else-below}
+use Rattle.perm_rules.proofs.Pars.Tellings.{Earlier, Opens, walks-open, opens-own, opens-none, Tells, tells-none, Ends, simple-ends, TellsIn}
+use Rattle.perm_rules.proofs.Pars.Blocks.{InBraces, BracedTold, braced-told, BothTold, both-told, else-below}
 use Rattle.perm_rules.proofs.Pars.RightSides.{rhs-told}
 
 module _ (earlier : Earlier) where
@@ -64,10 +64,10 @@ module _ (earlier : Earlier) where
   KindTold lo rest s kind = AllNamed lo s.span.end (declared_by kind) × Ends facts lo s.span.end rest (inner_vars stmts inner kind) (TellsIn facts lo s.span.end (declared_by kind) (inner_vars stmts inner kind) (kind_code k fs s kind))
 
   -- a statement that declares nothing and has no blocks
-  flat : (lo : ℕ) (s : Stmt) (i : Instruction) (rest : List Mark) → Stands vars lo (ends s.span.end ∷ rest) (mentions i) → IsWithin (touched_by i) (plus (consumes i) (assigns i))
+  flat-told : (lo : ℕ) (s : Stmt) (i : Instruction) (rest : List Mark) → Stands vars lo (ends s.span.end ∷ rest) (mentions i) → IsWithin (touched_by i) (plus (consumes i) (assigns i))
       → AllNamed lo s.span.end [] × Ends facts lo s.span.end rest [] (TellsIn facts lo s.span.end [] [] (Do s.span i))
-  flat lo s i rest stands writes =
-      let told = simple facts lo s i rest stands writes in (
+  flat-told lo s i rest stands writes =
+      let told = simple-ends facts lo s i rest stands writes in (
         tt,
         record {
           room = told.room;
@@ -84,9 +84,9 @@ module _ (earlier : Earlier) where
   assigned-meets lo x low = named-meets vars lo (suc x.span.start) x low (omega arith)
 
   -- what stands in a head and two blocks begins before the head's end
-  two-open : (at : ℕ) (G : Vars) (own1 : List ℕ) (a : Code) (own2 : List ℕ) (b : Code) → AllBegin vars at G → AllBegin vars at (block_mentions own1 a) → AllBegin vars at (block_mentions own2 b) → (code : Code) (x : ℕ)
+  head-and-blocks-open : (at : ℕ) (G : Vars) (own1 : List ℕ) (a : Code) (own2 : List ℕ) (b : Code) → AllBegin vars at G → AllBegin vars at (block_mentions own1 a) → AllBegin vars at (block_mentions own2 b) → (code : Code) (x : ℕ)
       → plus G (plus (block_mentions own1 a) (plus (block_mentions own2 b) (mentioned code))) x ≡ true → (mentioned code x ≡ true) ⊎ Begins vars at x
-  two-open at G own1 a own2 b head left right code x e = first (or_cases (G x) (plus (block_mentions own1 a) (plus (block_mentions own2 b) (mentioned code)) x) e)
+  head-and-blocks-open at G own1 a own2 b head left right code x e = first (or_cases (G x) (plus (block_mentions own1 a) (plus (block_mentions own2 b) (mentioned code)) x) e)
     where
       third : (block_mentions own2 b x ≡ true) ⊎ (mentioned code x ≡ true) → (mentioned code x ≡ true) ⊎ Begins vars at x
       third (inl m) = inr (right x m)
@@ -187,7 +187,7 @@ module _ (earlier : Earlier) where
       }
   kind-told count lo s (SetField y f a) rest placed up rise =
       let on = arg_marks exprs a (ends s.span.end ∷ rest) in
-      flat lo s (StoreField (var_at k y) (field_at k y f) (argument k a)) rest
+      flat-told lo s (StoreField (var_at k y) (field_at k y f) (argument k a)) rest
       (stands-then vars lo on (ends s.span.end ∷ rest) (just (var_at k y)) (argument_mentions (argument k a)) (stands-past vars lo f on (just (var_at k y)) (stands-name vars lo y (names f ∷ on) rise))
       (λ mid room r. arg-stands k exprs facts.terms a mid (ends s.span.end ∷ rest) r))
       (λ z e. e)
@@ -195,15 +195,15 @@ module _ (earlier : Earlier) where
       let on = marks_at exprs e (ends s.span.end ∷ rest) in
       let index = term_mentions (term_at k i) in
       let value = term_mentions (term_at k e) in
-      flat lo s (StoreItem (var_at k y) (term_at k i) (term_at k e)) rest
+      flat-told lo s (StoreItem (var_at k y) (term_at k i) (term_at k e)) rest
       (stands-then vars lo (marks_at exprs i on) (ends s.span.end ∷ rest) (just (var_at k y)) (plus index value) (stands-name vars lo y (marks_at exprs i on) rise)
       (λ mid room r. stands-then vars mid on (ends s.span.end ∷ rest) index value (expr-at k exprs facts.terms i mid on r) (λ from more q. expr-at k exprs facts.terms e from (ends s.span.end ∷ rest) q)))
       (λ z q. q)
-  kind-told count lo s (CallStmt m) rest placed up rise = flat lo s (call k None m) rest (call-stands k exprs facts.terms m lo (ends s.span.end ∷ rest) rise) (λ z e. e)
-  kind-told count lo s (PrintStmt e) rest placed up rise = flat lo s (Print (term_at k e)) rest (expr-at k exprs facts.terms e lo (ends s.span.end ∷ rest) rise) (λ z q. q)
+  kind-told count lo s (CallStmt m) rest placed up rise = flat-told lo s (call k None m) rest (call-stands k exprs facts.terms m lo (ends s.span.end ∷ rest) rise) (λ z e. e)
+  kind-told count lo s (PrintStmt e) rest placed up rise = flat-told lo s (Print (term_at k e)) rest (expr-at k exprs facts.terms e lo (ends s.span.end ∷ rest) rise) (λ z q. q)
   kind-told count lo s (IfStmt e a b) rest placed up rise =
       let blocks = block_marks ms a.stmts (block_marks ms (else_stmts b) (ends s.span.end ∷ rest)) in
-      go (expr-at k exprs facts.terms e lo (ends s.head.end ∷ blocks) rise) (λ higher r. two-told earlier s.head.end a.stmts (else_stmts b) (ends s.span.end ∷ rest) placed.1 (else-below earlier b placed.2) higher r)
+      go (expr-at k exprs facts.terms e lo (ends s.head.end ∷ blocks) rise) (λ higher r. both-told earlier s.head.end a.stmts (else_stmts b) (ends s.span.end ∷ rest) placed.1 (else-below earlier b placed.2) higher r)
     where
       own1 : List ℕ
       own1 = own_vars k a.stmts
@@ -224,10 +224,10 @@ module _ (earlier : Earlier) where
       f = kind_code k fs s (IfStmt e a b)
 
       go : Stands vars lo (ends s.head.end ∷ block_marks ms a.stmts (block_marks ms (else_stmts b) (ends s.span.end ∷ rest))) (term_mentions (term_at k e))
-          → (base ≤ s.head.end → IsRising s.head.end (block_marks ms a.stmts (block_marks ms (else_stmts b) (ends s.span.end ∷ rest))) → Two earlier s.head.end (ends s.span.end ∷ rest) a.stmts (else_stmts b)) → KindTold lo rest s (IfStmt e a b)
+          → (base ≤ s.head.end → IsRising s.head.end (block_marks ms a.stmts (block_marks ms (else_stmts b) (ends s.span.end ∷ rest))) → BothTold earlier s.head.end (ends s.span.end ∷ rest) a.stmts (else_stmts b)) → KindTold lo rest s (IfStmt e a b)
       go (test, low, r, meets) later = let head : test ≤ s.head.end = r.0 in on head (later (omega arith) r.1)
         where
-          on : test ≤ s.head.end → Two earlier s.head.end (ends s.span.end ∷ rest) a.stmts (else_stmts b) → KindTold lo rest s (IfStmt e a b)
+          on : test ≤ s.head.end → BothTold earlier s.head.end (ends s.span.end ∷ rest) a.stmts (else_stmts b) → KindTold lo rest s (IfStmt e a b)
           on head two =
               let room : s.head.end ≤ two.mid = two.low in
               let more : two.mid ≤ two.hi = two.more in
@@ -254,10 +254,10 @@ module _ (earlier : Earlier) where
                   (term_at k e)
                   (λ x z. meets-more vars lo test lo hi x (omega arith) (omega arith) (meets x z))))
                   (opens-none facts lo s.head.end s.span.end ws f (omega arith) (λ v i. (rows.starts v i).behind) whole
-                  (two-open s.head.end (term_mentions (term_at k e)) own1 code1 own2 code2 (λ x z v here. let begins : v.scope.start < test = (meets x z v here).0 in omega arith) left.begins right.begins))
+                  (head-and-blocks-open s.head.end (term_mentions (term_at k e)) own1 code1 own2 code2 (λ x z v here. let begins : v.scope.start < test = (meets x z v here).0 in omega arith) left.begins right.begins))
   kind-told count lo s (WhileStmt e a) rest placed up rise =
       let blocks = block_marks ms a.stmts (ends s.span.end ∷ rest) in
-      go (expr-at k exprs facts.terms e lo (ends s.head.end ∷ blocks) rise) (λ higher r. one-told earlier s.head.end a.stmts (ends s.span.end ∷ rest) placed.1 higher r)
+      go (expr-at k exprs facts.terms e lo (ends s.head.end ∷ blocks) rise) (λ higher r. braced-told earlier s.head.end a.stmts (ends s.span.end ∷ rest) placed.1 higher r)
     where
       own : List ℕ
       own = own_vars k a.stmts
@@ -272,10 +272,10 @@ module _ (earlier : Earlier) where
       f = kind_code k fs s (WhileStmt e a)
 
       go : Stands vars lo (ends s.head.end ∷ block_marks ms a.stmts (ends s.span.end ∷ rest)) (term_mentions (term_at k e))
-          → (base ≤ s.head.end → IsRising s.head.end (block_marks ms a.stmts (ends s.span.end ∷ rest)) → One earlier s.head.end (ends s.span.end ∷ rest) a.stmts) → KindTold lo rest s (WhileStmt e a)
+          → (base ≤ s.head.end → IsRising s.head.end (block_marks ms a.stmts (ends s.span.end ∷ rest)) → BracedTold earlier s.head.end (ends s.span.end ∷ rest) a.stmts) → KindTold lo rest s (WhileStmt e a)
       go (test, low, r, meets) later = let head : test ≤ s.head.end = r.0 in on head (later (omega arith) r.1)
         where
-          on : test ≤ s.head.end → One earlier s.head.end (ends s.span.end ∷ rest) a.stmts → KindTold lo rest s (WhileStmt e a)
+          on : test ≤ s.head.end → BracedTold earlier s.head.end (ends s.span.end ∷ rest) a.stmts → KindTold lo rest s (WhileStmt e a)
           on head one =
               let room : s.head.end ≤ one.hi = one.room in
               let last : one.hi ≤ s.span.end = one.rise.0 in (
@@ -306,7 +306,7 @@ module _ (earlier : Earlier) where
                       first : (term_mentions (term_at k e) x ≡ true) ⊎ (plus (block_mentions own body) (mentioned code) x ≡ true) → (mentioned code x ≡ true) ⊎ Begins vars s.head.end x
                       first (inl m) = inr (λ v here. let before : v.scope.start < test = (meets x m v here).0 in omega arith)
                       first (inr m) = second (or_cases (block_mentions own body x) (mentioned code x) m)
-  kind-told count lo s (ParStmt a b) rest placed up rise = let head : lo ≤ s.head.end = rise.0 in go head (two-told earlier s.head.end a.stmts b.stmts (ends s.span.end ∷ rest) placed.0 placed.1 (omega arith) rise.1)
+  kind-told count lo s (ParStmt a b) rest placed up rise = let head : lo ≤ s.head.end = rise.0 in go head (both-told earlier s.head.end a.stmts b.stmts (ends s.span.end ∷ rest) placed.0 placed.1 (omega arith) rise.1)
     where
       own1 : List ℕ
       own1 = own_vars k a.stmts
@@ -326,7 +326,7 @@ module _ (earlier : Earlier) where
       f : Code → Code
       f = kind_code k fs s (ParStmt a b)
 
-      go : lo ≤ s.head.end → Two earlier s.head.end (ends s.span.end ∷ rest) a.stmts b.stmts → KindTold lo rest s (ParStmt a b)
+      go : lo ≤ s.head.end → BothTold earlier s.head.end (ends s.span.end ∷ rest) a.stmts b.stmts → KindTold lo rest s (ParStmt a b)
       go head two =
           let room : s.head.end ≤ two.mid = two.low in
           let more : two.mid ≤ two.hi = two.more in
@@ -347,4 +347,4 @@ module _ (earlier : Earlier) where
               tells-none facts lo s.span.end end f
               (walks-more vars c lo s.head.end hi s.span.end end f head last
               (par-walks vars c s.head.end mid hi end own1 code1 own2 code2 room more (omega arith) left.encloses right.encloses s.head (shares-plainly vars c facts.types s.head.end mid hi own1 code1 own2 code2 left.encloses right.encloses)))
-              (opens-none facts lo s.head.end s.span.end ws f (omega arith) (λ v i. (rows.starts v i).behind) whole (two-open s.head.end none own1 code1 own2 code2 (λ x z. absurd (let no : ⊥ = cc z in no)) left.begins right.begins))
+              (opens-none facts lo s.head.end s.span.end ws f (omega arith) (λ v i. (rows.starts v i).behind) whole (head-and-blocks-open s.head.end none own1 code1 own2 code2 (λ x z. absurd (let no : ⊥ = cc z in no)) left.begins right.begins))

@@ -24,7 +24,7 @@ use Rattle.perm_rules.proofs.Pars.Beginnings.{IsAmong, among-none, Rows, rows-no
 use Rattle.perm_rules.proofs.Pars.StandingTerms.{Stands, stands-none, stands-name, stands-less, stands-also, stands-past, stands-then, expr-at, arg-stands, args_mention, call-stands}
 use Rattle.perm_rules.proofs.Pars.CodeWalks.{Walks, Recovers, walks-more, recover-walks, encloses-give}
 use Rattle.perm_rules.proofs.Pars.OwnVariables.{MethodFacts}
-use Rattle.perm_rules.proofs.Pars.Tellings.{Earlier, Opens, walks-open, opens-none, Tells, outer-begins, Ends, simple}
+use Rattle.perm_rules.proofs.Pars.Tellings.{Earlier, Opens, walks-open, opens-none, Tells, outer-begins, Ends, simple-ends}
 use Rattle.perm_rules.proofs.Pars.Blocks.{BlockTold, block-told}
 
 module _ (earlier : Earlier) where
@@ -74,7 +74,7 @@ module _ (earlier : Earlier) where
 
       both : Stands vars lo (ends s.span.end ∷ rest) (mentions i) → from ≤ s.span.end → RhsTold lo from rest s [] (Do s.span i)
       both all more =
-          let told = simple facts lo s i rest all writes in
+          let told = simple-ends facts lo s i rest all writes in
           record {
             room = more;
             rise = told.rise;

@@ -226,9 +226,9 @@ module _ (facts : MethodFacts) where
     pub walk : (end : ℕ) → hi ≤ end → Walk end
 
   -- a simple statement that declares nothing
-  pub simple : (lo : ℕ) (s : Stmt) (i : Instruction) (rest : List Mark) → Stands vars lo (ends s.span.end ∷ rest) (mentions i) → IsWithin (touched_by i) (plus (consumes i) (assigns i))
+  pub simple-ends : (lo : ℕ) (s : Stmt) (i : Instruction) (rest : List Mark) → Stands vars lo (ends s.span.end ∷ rest) (mentions i) → IsWithin (touched_by i) (plus (consumes i) (assigns i))
       → Ends lo s.span.end rest [] (λ end. Walks vars c lo s.span.end end (Do s.span i))
-  simple lo s i rest (mid, room, rise, standing) writes =
+  simple-ends lo s i rest (mid, room, rise, standing) writes =
       let last : mid ≤ s.span.end = rise.0 in
       record {
         room = omega arith;
