@@ -33,7 +33,7 @@ use Rattle.perm_tree.proofs.MethodMarks.{IsResolved-method}
 use Rattle.perm_tree.proofs.Nested.{IsResolved-nested}
 use Rattle.perm_tree.proofs.Passing.{exprs-pass, arg-passes}
 use Rattle.perm_tree.proofs.ResolvedLaws.{ident}
-use Rattle.perm_tree.proofs.TableLaws.{AllMethods, IsTable, tables_of-methods, routine-table}
+use Rattle.perm_tree.proofs.TableLaws.{AllMethods, HasTable, IsTable, tables_of-methods, routine-table}
 use Rattle.perm_rules.specs.Goes.{context, first_live}
 use Rattle.perm_rules.specs.Parts.{Context}
 use Rattle.perm_rules.specs.Sharing.{AllSharePlainly}
@@ -99,6 +99,11 @@ params-first : (d : Method) (fs : List FieldDecl) (ws : List VarInfo) (y : ℕ) 
 params-first d [] ws y v e here = absurd (let no : ⊥ = cc e in no)
 params-first d (f ∷ fs) ws zero v e here = let same : param_var d f ≡ v = cc here in subst (λ (w : VarInfo). w.scope.start ≡ d.name.span.start) same refl
 params-first d (f ∷ fs) ws (suc y) v e here = params-first d fs ws y v e here
+
+-- the code of a method shares plainly in each par, and is rightly scoped
+pub record CodeTold (u : Tables) (r : Routine) : Type 0 where
+  pub shares : AllSharePlainly (context (code_of u) r) r.code
+  pub scoped : is_scoped (context (code_of u) r) r.code (first_live r) ≡ true
 
 -- ---------- methods ----------
 module _ (u : Tables) (t : MethodTable) (d : Method) (is : IsResolved u) (apart : AreApart t.vars) (table : IsTable u.program t d) where
@@ -182,13 +187,13 @@ module _ (u : Tables) (t : MethodTable) (d : Method) (is : IsResolved u) (apart 
             let next : 1 + length (map (λ f. f.ty) d.params) ≡ suc (length (map (λ f. f.ty) d.params)) = omega arith in
             params-first d d.params body y v (subst (λ n. below n (suc y) ≡ true) next f) q
 
-    method-tells : IsRising from (block_marks marks d.body.stmts back) → AllBelow (length stmts) d.body.stmts → AllSharePlainly c (routine u t d).code × (is_scoped c (routine u t d).code (first_live (routine u t d)) ≡ true)
+    method-tells : IsRising from (block_marks marks d.body.stmts back) → AllBelow (length stmts) d.body.stmts → CodeTold u (routine u t d)
     method-tells rise below =
         let body_told = block-told every from d.body.stmts back below (le_refl from) rise in
         let last = block_end stmts from d.body.stmts in
         let end : IsRising last (ends d.span.end ∷ []) = arg-passes exprs (exprs-pass [] u.program.exprs tt) d.back last (ends d.span.end ∷ []) body_told.rise in
         let walks = (body_told.tells d.span.end end.0 (record { had = had; all = λ y v here. whole last y v here })).walks in
-        (walks.pars (Return d.span (argument k d.back)) tt, walks.scoped (Return d.span (argument k d.back)) (first_live (routine u t d)) first-begins (λ V behind. refl))
+        record { shares = walks.pars (Return d.span (argument k d.back)) tt; scoped = walks.scoped (Return d.span (argument k d.back)) (first_live (routine u t d)) first-begins (λ V behind. refl) }
       where
         whole : (last : ℕ) → AreAll k.vars from last body
         whole last y v here = pick (parts from low all y v here)
@@ -199,28 +204,26 @@ module _ (u : Tables) (t : MethodTable) (d : Method) (is : IsResolved u) (apart 
 
 -- what the marks of a method of a resolved unit tell of its code
 table-tells : (u : Tables) (at : ℕ) (t : MethodTable) (d : Method) → IsResolved u → slice_get u.tables at ≡ Some t → IsTable u.program t d
-    → AllSharePlainly (context (code_of u) (routine u t d)) (routine u t d).code × (is_scoped (context (code_of u) (routine u t d)) (routine u t d).code (first_live (routine u t d)) ≡ true)
+    → CodeTold u (routine u t d)
 table-tells u at t d is there table =
     let «method» = IsResolved-method u t d is table.0 in
     go «method».0.0 (params-behind (suc d.name.span.start) d.params (block_marks (all_stmt_marks u.program.exprs u.program.stmts) d.body.stmts (arg_marks (all_expr_marks u.program.exprs) d.back (ends d.span.end ∷ []))) «method».1.1)
   where
     go : AllBelow (length u.program.stmts) d.body.stmts → Behind (suc d.name.span.start) d.params (block_marks (all_stmt_marks u.program.exprs u.program.stmts) d.body.stmts (arg_marks (all_expr_marks u.program.exprs) d.back (ends d.span.end ∷ [])))
-        → AllSharePlainly (context (code_of u) (routine u t d)) (routine u t d).code × (is_scoped (context (code_of u) (routine u t d)) (routine u t d).code (first_live (routine u t d)) ≡ true)
+        → CodeTold u (routine u t d)
     go placed b = method-tells u t d is (apart-names u at t is there) table (all-at (λ (t : MethodTable). AreNested t.vars) u.tables at t (IsResolved-nested u is) there) b.from b.low b.all b.rise placed
 
 -- ---------- units ----------
 -- so it is of the code with a number
-code-tells : (u : Tables) (at : ℕ) (r : Routine) → IsResolved u → slice_get (code_of u).routines at ≡ Some r → AllSharePlainly (context (code_of u) r) r.code × (is_scoped (context (code_of u) r) r.code (first_live r) ≡ true)
+code-tells : (u : Tables) (at : ℕ) (r : Routine) → IsResolved u → slice_get (code_of u).routines at ≡ Some r → CodeTold u r
 code-tells u at r is here = by-table (routine-table u u.tables at r (subst (AllMethods u.program) (sym is.tables) (tables_of-methods u.program)) here)
   where
-    by-table : (t : MethodTable) × (d : Method) × (slice_get u.tables at ≡ Some t) × IsTable u.program t d × (routine u t d ≡ r)
-        → AllSharePlainly (context (code_of u) r) r.code × (is_scoped (context (code_of u) r) r.code (first_live r) ≡ true)
-    by-table (t, d, there, table, same) =
-        subst (λ (s : Routine). AllSharePlainly (context (code_of u) s) s.code × (is_scoped (context (code_of u) s) s.code (first_live s) ≡ true)) same (table-tells u at t d is there table)
+    by-table : HasTable u u.tables at r → CodeTold u r
+    by-table (t, d, there, table, same) = subst (CodeTold u) same (table-tells u at t d is there table)
 
 pub IsResolved-shares : (u : Tables) (at : ℕ) (r : Routine) → IsResolved u → slice_get (code_of u).routines at ≡ Some r → AllSharePlainly (context (code_of u) r) r.code
-IsResolved-shares u at r is here = (code-tells u at r is here).0
+IsResolved-shares u at r is here = (code-tells u at r is here).shares
 
 -- the code of each method of a resolved unit is rightly scoped
 pub IsResolved-scoped : (u : Tables) (at : ℕ) (r : Routine) → IsResolved u → slice_get (code_of u).routines at ≡ Some r → is_scoped (context (code_of u) r) r.code (first_live r) ≡ true
-IsResolved-scoped u at r is here = (code-tells u at r is here).1
+IsResolved-scoped u at r is here = (code-tells u at r is here).scoped

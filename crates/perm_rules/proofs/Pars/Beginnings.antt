@@ -290,23 +290,28 @@ tied-listed at n (v ∷ vs) (suc x) tied before =
     front-more (n + suc x) n (nat_lt v.declared.start at && is_tied v.ty) (tied_before at (suc n) vs)
     (subst (λ m. list_any (nat_eq m) (tied_before at (suc n) vs) ≡ true) (omega arith) (tied-listed at (suc n) vs x tied before))
 
+-- a number, counted from n, is that of a variable that is declared before a place
+pub record IsBefore (at n : ℕ) (vars : List VarInfo) (x : ℕ) : Type 0 where
+  pub place : ℕ
+  pub var : VarInfo
+  pub counted : x ≡ n + place
+  pub there : slice_get vars place ≡ Some var
+  pub before : var.declared.start < at
+
 -- what is listed is declared before the place
-tied-before : (at n : ℕ) (vars : List VarInfo) (x : ℕ) → those (tied_before at n vars) x ≡ true → (y : ℕ) × (v : VarInfo) × (x ≡ n + y) × (slice_get vars y ≡ Some v) × (v.declared.start < at)
+tied-before : (at n : ℕ) (vars : List VarInfo) (x : ℕ) → those (tied_before at n vars) x ≡ true → IsBefore at n vars x
 tied-before at n [] x e = absurd (let no : ⊥ = cc e in no)
 tied-before at n (v ∷ vs) x e = by-test (nat_lt v.declared.start at) (is_tied v.ty) refl e (λ q. tied-before at (suc n) vs x q)
   where
-    Found : Type 0
-    Found = (y : ℕ) × (w : VarInfo) × (x ≡ n + y) × (slice_get (v ∷ vs) y ≡ Some w) × (w.declared.start < at)
-
-    next : (y : ℕ) × (w : VarInfo) × (x ≡ suc n + y) × (slice_get vs y ≡ Some w) × (w.declared.start < at) → Found
-    next (y, w, i, here, less) = (suc y, w, omega (arith, i), here, less)
+    next : IsBefore at (suc n) vs x → IsBefore at n (v ∷ vs) x
+    next is = record { place = suc is.place; var = is.var; counted = (let i : x ≡ suc n + is.place = is.counted in omega (arith, i)); there = is.there; before = is.before }
 
     by-test : (s t : Bool) → nat_lt v.declared.start at ≡ s → those (listed_if (s && t) n (tied_before at (suc n) vs)) x ≡ true
-        → (those (tied_before at (suc n) vs) x ≡ true → (y : ℕ) × (w : VarInfo) × (x ≡ suc n + y) × (slice_get vs y ≡ Some w) × (w.declared.start < at)) → Found
+        → (those (tied_before at (suc n) vs) x ≡ true → IsBefore at (suc n) vs x) → IsBefore at n (v ∷ vs) x
     by-test true true p q later = pick (or_cases (nat_eq x n) (those (tied_before at (suc n) vs) x) q)
       where
-        pick : (nat_eq x n ≡ true) ⊎ (those (tied_before at (suc n) vs) x ≡ true) → Found
-        pick (inl i) = let same : x ≡ n = eqb-true x n i in (zero, v, omega (arith, same), refl, ltb-true v.declared.start at p)
+        pick : (nat_eq x n ≡ true) ⊎ (those (tied_before at (suc n) vs) x ≡ true) → IsBefore at n (v ∷ vs) x
+        pick (inl i) = let same : x ≡ n = eqb-true x n i in record { place = zero; var = v; counted = omega (arith, same); there = refl; before = ltb-true v.declared.start at p }
         pick (inr i) = next (later i)
     by-test true false p q later = next (later q)
     by-test false t p q later = next (later q)
@@ -316,11 +321,14 @@ module _ (vars : List VarInfo) (from at : ℕ) (early : AllEarly from vars) wher
   pub hides-begin : AllBegin vars at (those (tied_before at 0 vars))
   hides-begin x e v here = go (tied-before at 0 vars x e)
     where
-      go : (y : ℕ) × (w : VarInfo) × (x ≡ 0 + y) × (slice_get vars y ≡ Some w) × (w.declared.start < at) → v.scope.start < at
-      go (y, w, i, there, less) =
-          let same : x ≡ y = omega (arith, i) in
-          let one : w ≡ v = cc (there, here, ap (slice_get vars) same) in
-          let known : w.scope.start ≤ w.declared.start = (early y w there).known in
+      go : IsBefore at 0 vars x → v.scope.start < at
+      go is =
+          let i : x ≡ 0 + is.place = is.counted in
+          let same : x ≡ is.place = omega (arith, i) in
+          let there : slice_get vars is.place ≡ Some is.var = is.there in
+          let one : is.var ≡ v = cc (there, here, ap (slice_get vars) same) in
+          let less : is.var.declared.start < at = is.before in
+          let known : is.var.scope.start ≤ is.var.declared.start = (early is.place is.var there).known in
           subst (λ (z : VarInfo). z.scope.start < at) one (omega arith)
 
   -- nothing tied whose scope begins before the place is left out
