@@ -1,4 +1,4 @@
--- What goes, what is fine, and effects agree; what goes is monotone.
+-- A code goes exactly where it is fine, and then to what its effect gives.
 use Rattle.std.proofs.Common.{◌≡◌, ℕ, List, refl, sym, ap, ◌∙◌, subst}
 use Rattle.perm_tree.specs.Code.{Term, Code, End, Give, Return, Do, If, While, Par, Recover}
 use Rattle.perm_tree.specs.Mentions.{argument_consumes}

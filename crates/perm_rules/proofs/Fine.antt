@@ -1,4 +1,4 @@
--- Codes of which each part is allowed with its entry set: their variables are known, and a larger live set allows them too.
+-- Codes of which each part is allowed with its entry set: their variables are known, nothing is both lost and made, and a larger live set allows them too.
 use Rattle.std.proofs.Common.{◌≡◌, ℕ, zero, suc, ◌<◌, true, false, List, length, Option, Some, None, refl, sym, ap, ◌∙◌, arith, inl, inr}
 use Rattle.std.specs.Prelude.{not, ◌&&◌, ◌⊎◌, nat_eq}
 use Rattle.std.proofs.lemmas.Bool.{or_cases, or_left, or_right, or_parts, and_parts, and_from, cases_lt, false_from_ne_true}
