@@ -16,7 +16,7 @@ use Rattle.perm_rules.specs.Parts.{Context, Simple, type_of, if_known, is_long_a
 use Rattle.perm_rules.specs.Refusals.{IsAllowed}
 use Rattle.perm_rules.specs.Shapes.{isnt_array}
 use Rattle.perm_rules.specs.Sorts.{isnt_long}
-use Rattle.perm_rules.proofs.PartLaws.{applies-none, known_in}
+use Rattle.perm_rules.proofs.PartLaws.{applies-none, part-known}
 use Rattle.perm_meaning.specs.Values as values
 use Rattle.perm_meaning.specs.Values.{Number, Truth, Null, Reference}
 use Rattle.perm_meaning.specs.Names.{Name, same_name}
@@ -70,7 +70,7 @@ module _ (u : UnitCode) (labels : Labels) (heap : Heap) (at : Way → Way) (z : 
 
   -- the receiver is an array
   receiver : has_shape (h r) Array len ≡ true
-  receiver = of_type (get-some c.vars y (known_in part (Simple (StoreItem y i e)) (valued b.own.vars) allowed y (or_left (nat_eq y y) (any_in_term (nat_eq y) i || any_in_term (nat_eq y) e) (eq_itself y))))
+  receiver = of_type (get-some c.vars y (part-known part (Simple (StoreItem y i e)) (valued b.own.vars) allowed y (or_left (nat_eq y y) (any_in_term (nat_eq y) i || any_in_term (nat_eq y) e) (eq_itself y))))
     where
       wrong : isnt_array c y ≡ false
       wrong = (or_parts (isnt_array part y) (isnt_long part i || isnt_long part e) (applies-none part (Simple (StoreItem y i e)) (valued b.own.vars) allowed WrongKind)).0

@@ -20,7 +20,7 @@ use Rattle.perm_rules.specs.Parts.{Context, Simple, type_of}
 use Rattle.perm_rules.specs.Refusals.{IsAllowed}
 use Rattle.perm_rules.specs.Shapes.{shapes_differ}
 use Rattle.perm_rules.specs.Sorts.{isnt_long, differ}
-use Rattle.perm_rules.proofs.PartLaws.{applies-none, known_in}
+use Rattle.perm_rules.proofs.PartLaws.{applies-none, part-known}
 use Rattle.perm_meaning.specs.Values.{Value, Number, Reference}
 use Rattle.perm_meaning.specs.Names.{Name, next_name, same_name}
 use Rattle.perm_meaning.specs.Objects.{Object, Objects, zero_of, types_or_none, first_values, new_object, length_of, this_or, add}
@@ -72,8 +72,8 @@ new-shape u (Class k) Array n e = absurd (let no : ⊥ = cc e in no)
 
 -- the variable that takes it is known, and of its shape
 taker-known : (u : UnitCode) (l : Own) (c : Context) (G : Vars) (i : Instruction) (shape : Shape) (n x : ℕ) → Creates u l i shape n x → IsAllowed c (Simple i) G → x < length c.vars
-taker-known u l c G _ _ _ _ (object x k ts q) allowed = known_in c (Simple (NewObject x k)) G allowed x (eq_itself x)
-taker-known u l c G _ _ _ _ (array x e n) allowed = known_in c (Simple (NewArray x e)) G allowed x (or_left (nat_eq x x) (any_in_term (nat_eq x) e) (eq_itself x))
+taker-known u l c G _ _ _ _ (object x k ts q) allowed = part-known c (Simple (NewObject x k)) G allowed x (eq_itself x)
+taker-known u l c G _ _ _ _ (array x e n) allowed = part-known c (Simple (NewArray x e)) G allowed x (or_left (nat_eq x x) (any_in_term (nat_eq x) e) (eq_itself x))
 
 taker-shaped : (u : UnitCode) (l : Own) (c : Context) (G : Vars) (i : Instruction) (shape : Shape) (n x : ℕ) → Creates u l i shape n x → IsAllowed c (Simple i) G → shapes_differ (Some (Ref Isolated shape)) (type_of c x) ≡ false
 taker-shaped u l c G _ _ _ _ (object x k ts q) allowed = applies-none c (Simple (NewObject x k)) G allowed WrongKind

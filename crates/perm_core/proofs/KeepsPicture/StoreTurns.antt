@@ -20,7 +20,7 @@ use Rattle.perm_rules.specs.Parts.{Context, Simple, any_in_part, type_of, field_
 use Rattle.perm_rules.specs.Permissions.{argument_weak, may_store}
 use Rattle.perm_rules.specs.Refusals.{IsAllowed}
 use Rattle.perm_rules.specs.Shapes.{argument_misfits, isnt_object, lacks_field}
-use Rattle.perm_rules.proofs.PartLaws.{applies-none, known_in}
+use Rattle.perm_rules.proofs.PartLaws.{applies-none, part-known}
 use Rattle.perm_meaning.specs.Values.{Value, Reference}
 use Rattle.perm_meaning.specs.Names.{Name, same_name}
 use Rattle.perm_meaning.specs.Objects.{Object, Objects, put}
@@ -63,7 +63,7 @@ pub record StoreTypes (classes : List (List Ty)) (receiver : Option Ty) (f : ℕ
 
 -- so it is of an allowed store
 pub store-types : (c : Context) (y f : ℕ) (a : Argument) (G : Vars) → IsAllowed c (Simple (StoreField y f a)) G → StoreTypes c.classes (type_of c y) f
-store-types c y f a G allowed = of_type (get-some c.vars y (known_in c (Simple (StoreField y f a)) G allowed y (or_left (nat_eq y y) (any_in_argument (nat_eq y) a) (eq_itself y))))
+store-types c y f a G allowed = of_type (get-some c.vars y (part-known c (Simple (StoreField y f a)) G allowed y (or_left (nat_eq y y) (any_in_argument (nat_eq y) a) (eq_itself y))))
   where
     lacks : lacks_field c y f ≡ false
     lacks = (or_parts (any_in_part (λ x. is_none (type_of c x)) (Simple (StoreField y f a))) (lacks_field c y f) (applies-none c (Simple (StoreField y f a)) G allowed UnknownName)).1
