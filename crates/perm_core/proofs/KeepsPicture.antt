@@ -43,5 +43,6 @@ pub mod ReadTurns
 pub mod TrapTurns
 pub mod FewerLive
 pub mod GoesOfTrees
+pub mod NodePremises
 pub mod HiddenFree
 pub mod SideFree

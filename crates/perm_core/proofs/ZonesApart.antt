@@ -69,15 +69,15 @@ side-zones OnRight RightAlone z h t = first_alone
 abbrev pub IsInjective : (Way → Way) → Type 0
 IsInjective at = (v w : Way) → at v ≡ at w → v ≡ w
 
-side-injective : (s : Side) (at : Way → Way) → IsInjective at → IsInjective (side_at s at)
+pub side-injective : (s : Side) (at : Way → Way) → IsInjective at → IsInjective (side_at s at)
 side-injective OnLeft at i v w e = let x = i (GoL v) (GoL w) e in cc
 side-injective OnRight at i v w e = let x = i (GoR v) (GoR w) e in cc
 
-sides-differ : (s : Side) (at : Way → Way) → IsInjective at → (v w : Way) → side_at s at v ≡ side_at (other_side s) at w → ⊥
+pub sides-differ : (s : Side) (at : Way → Way) → IsInjective at → (v w : Way) → side_at s at v ≡ side_at (other_side s) at w → ⊥
 sides-differ OnLeft at i v w e = let x = i (GoL v) (GoR w) e in absurd (cc)
 sides-differ OnRight at i v w e = let x = i (GoR v) (GoL w) e in absurd (cc)
 
-above-differs : (s : Side) (at : Way → Way) → IsInjective at → (w : Way) → at Here ≡ side_at s at w → ⊥
+pub above-differs : (s : Side) (at : Way → Way) → IsInjective at → (w : Way) → at Here ≡ side_at s at w → ⊥
 above-differs OnLeft at i w e = let x = i Here (GoL w) e in absurd (cc)
 above-differs OnRight at i w e = let x = i Here (GoR w) e in absurd (cc)
 
@@ -90,14 +90,14 @@ pub record IsOutside (at : Way → Way) (z : Zone) : Type 0 where
 abbrev pub IsAbove : (Way → Way) → Zone → Type 0
 IsAbove at z = (s : Side) → IsOutside (side_at s at) z
 
-above-top : (at : Way → Way) (z : Zone) (st : List (Frame Held)) → IsInjective at → IsAbove at z → IsAbove at (top_zone (at Here) z st)
+pub above-top : (at : Way → Way) (z : Zone) (st : List (Frame Held)) → IsInjective at → IsAbove at z → IsAbove at (top_zone (at Here) z st)
 above-top at z st i above = go (top-cases (at Here) z st)
   where
     go : (top_zone (at Here) z st ≡ z) ⊎ ((k : ℕ) × (top_zone (at Here) z st ≡ Base (at Here) k)) → IsAbove at (top_zone (at Here) z st)
     go (inl e) = subst (λ y. IsAbove at y) (sym e) above
     go (inr e) = subst (λ y. IsAbove at y) (sym e.1) (λ s. record { own = above-differs s at i; read = λ y r. absurd r })
 
-above-side : (s : Side) (m : ParMode) (at : Way → Way) (z : Zone) → IsInjective at → IsAbove at z → IsAbove (side_at s at) (side_zone s m (side_at s at Here) z)
+pub above-side : (s : Side) (m : ParMode) (at : Way → Way) (z : Zone) → IsInjective at → IsAbove at z → IsAbove (side_at s at) (side_zone s m (side_at s at Here) z)
 above-side s m at z i above t = go (side-zones s m z (side_at s at Here) (side_at (other_side s) at Here))
   where
     go : {x y : Zone} → SideZones z (side_at s at Here) (side_at (other_side s) at Here) x y → IsOutside (side_at t (side_at s at)) x
@@ -184,14 +184,14 @@ frozen-own : {z : Zone} → Frozen ≡ OwnOf z → ⊥
 frozen-own e = absurd (cc)
 
 -- the writer's nodes are those of `at`, in zone w; the other's those of `to`, in zone z
-record AreSplit (at to : Way → Way) (w z : Zone) : Type 0 where
+pub record AreSplit (at to : Way → Way) (w z : Zone) : Type 0 where
   nodes : (u v : Way) → at u ≡ to v → ⊥
   zones : w ≡ z → ⊥
   unread : Reads z w → ⊥
   writer : (u : Way) → base w ≡ to u → ⊥
-  other : IsOutside at z
+  pub other : IsOutside at z
 
-split-sides : (s : Side) (m : ParMode) (at : Way → Way) (z : Zone) → IsInjective at → IsAbove at z
+pub split-sides : (s : Side) (m : ParMode) (at : Way → Way) (z : Zone) → IsInjective at → IsAbove at z
     → AreSplit (side_at s at) (side_at (other_side s) at) (side_zone s m (side_at s at Here) z) (side_zone (other_side s) m (side_at (other_side s) at Here) z)
 split-sides s m at z i above = go (side-zones s m z (side_at s at Here) (side_at (other_side s) at Here))
   where

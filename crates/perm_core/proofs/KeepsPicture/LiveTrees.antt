@@ -281,7 +281,7 @@ module _ (u : UnitCode) (labels : Labels) (h : Objects Name) where
     pub hidden : tree_hidden below t ≡ true
 
   -- the sides of a tree have it too
-  left-premises : (k : Ending) (below : List ℕ) (at : Way → Way) (z : Zone) (b : Branch) (p : Blocks) (l r : Task) → Premises k below at z (Fork b p l r)
+  pub left-premises : (k : Ending) (below : List ℕ) (at : Way → Way) (z : Zone) (b : Branch) (p : Blocks) (l r : Task) → Premises k below at z (Fork b p l r)
       → Premises ByNothing (hidden_above below b.stack) (λ w. at (GoL w)) (left_zone (mode_in u b.own.routine p) (at (GoL Here)) (top_zone (at Here) z b.stack)) l
   left-premises k below at z b p l r is =
       let hid = hidden_above below b.stack in
@@ -294,7 +294,7 @@ module _ (u : UnitCode) (labels : Labels) (h : Objects Name) where
         hidden = (and_parts (tree_hidden hid l) (tree_hidden hid r) (and_parts (branch_hidden below b) (tree_hidden hid l && tree_hidden hid r) is.hidden).1).0;
       }
 
-  right-premises : (k : Ending) (below : List ℕ) (at : Way → Way) (z : Zone) (b : Branch) (p : Blocks) (l r : Task) → Premises k below at z (Fork b p l r)
+  pub right-premises : (k : Ending) (below : List ℕ) (at : Way → Way) (z : Zone) (b : Branch) (p : Blocks) (l r : Task) → Premises k below at z (Fork b p l r)
       → Premises ByNothing (hidden_above below b.stack) (λ w. at (GoR w)) (right_zone (mode_in u b.own.routine p) (at (GoR Here)) (top_zone (at Here) z b.stack)) r
   right-premises k below at z b p l r is =
       let hid = hidden_above below b.stack in
