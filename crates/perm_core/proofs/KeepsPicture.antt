@@ -44,5 +44,6 @@ pub mod TrapTurns
 pub mod FewerLive
 pub mod GoesOfTrees
 pub mod NodePremises
+pub mod LocalChanges
 pub mod HiddenFree
 pub mod SideFree
