@@ -45,5 +45,7 @@ pub mod FewerLive
 pub mod GoesOfTrees
 pub mod NodePremises
 pub mod LocalChanges
+pub mod NodeChanges
+pub mod WholeTrees
 pub mod HiddenFree
 pub mod SideFree

@@ -150,7 +150,7 @@ base-stays : (v : Way) (j : ℕ) (z x : Zone) → Avoids v x → zone_joined (Ba
 base-stays v j z (Base w k) a = let miss : (same_way w v && nat_eq k j) ≡ false = ap (λ t. t && nat_eq k j) a in ap (λ t. cond t z (Base w k)) miss
 base-stays v j z (Under w x) a = ap (λ x. Under w x) (base-stays v j z x a.1)
 
-under-joins : (v : Way) (z : Zone) → Avoids v z → MayJoin (Under v z) z
+pub under-joins : (v : Way) (z : Zone) → Avoids v z → MayJoin (Under v z) z
 under-joins v z a = record {
   stays = under-stays v z z z a;
   read = λ x r. under-stays v z z x (avoids-read v z x a r);
@@ -161,7 +161,7 @@ under-joins v z a = record {
     go x (inl q) = inl (zone-true x z q)
     go x (inr q) = inr q
 
-base-joins : (v : Way) (j : ℕ) (z : Zone) → Avoids v z → MayJoin (Base v j) z
+pub base-joins : (v : Way) (j : ℕ) (z : Zone) → Avoids v z → MayJoin (Base v j) z
 base-joins v j z a = record { stays = base-stays v j z z a; read = λ x r. base-stays v j z x (avoids-read v z x a r); no_more = λ x r. absurd (let f : false ≡ true = r in cc) }
 
 -- ---------- stacks ----------

@@ -10,26 +10,41 @@ use Rattle.perm_meaning.specs.NamedHeap as named
 use Rattle.perm_meaning.specs.NamedHeap.{Heap, Op}
 use Rattle.perm_meaning.proofs.SameName.{name_true}
 use Rattle.perm_tree.specs.declared.ast.Shape.{Shape}
-use Rattle.perm_core.specs.Regions.{Zone, Base, Under, Region, OwnOf, OfVariable, OfField, Labels, same_zone, is_absent}
+use Rattle.perm_core.specs.Regions.{Zone, Base, Under, Region, OwnOf, OfVariable, OfField, Loose, Labels, same_zone, same_region, is_absent}
 use Rattle.perm_core.specs.Picture.{has_shape}
 use Rattle.perm_core.specs.NextPicture.{Renaming, Moves, Ends, Joins, Renamings, Change, renamed, moved, zone_joined, label_new, relabelled, no_change}
 use Rattle.perm_core.proofs.LeadsTo.{zone-true}
 use Rattle.perm_core.proofs.ZonesApart.{IsOutside, base}
 use Rattle.perm_core.proofs.KeepsPicture.NodePremises.{differ-way, under-outside, outside-rooted}
 use Rattle.perm_core.proofs.KeepsPicture.OtherHeaps.{KeepsShapes, after-keeps}
-use Rattle.perm_core.proofs.KeepsPicture.Relabellings.{Good, good-none, good-then, good-moves, good-ends, good-joins, of_variable, of_field, MayJoin}
+use Rattle.perm_core.proofs.KeepsPicture.Relabellings.{Good, Sees, frozen, within, across, sees, visible, good-none, good-then, good-moves, good-ends, good-joins, of_variable, of_field, MayJoin}
 
 -- ---------- renamings ----------
 -- a renaming of regions of nodes that `at` names, or of a field
 pub data IsLocal (at : Way → Way) : Renaming → Type 0 where
   of_own : (w : Way) (k x : ℕ) (to : Region) → is_absent to ≡ false → IsLocal at (Moves (OfVariable (at w) k x) to)
   of_object : (n : Name) (f : ℕ) (to : Region) → is_absent to ≡ false → IsLocal at (Moves (OfField n f) to)
+  of_none : (to : Region) → is_absent to ≡ false → IsLocal at (Moves Loose to)
   ending_at : (w : Way) (k : ℕ) (to : Region) → is_absent to ≡ false → IsLocal at (Ends (at w) k to)
   joining_at : (w : Way) (y z : Zone) → base y ≡ at w → MayJoin y z → IsLocal at (Joins y z)
+
+-- what nothing leads to may take any label
+good-loose : (to : Region) → is_absent to ≡ false → Good (renamed (Moves Loose to))
+good-loose to there = record { absent = refl; fixed = refl; stay = λ r e. stays r e (same_region r Loose); see = λ a b e. visible (renamed (Moves Loose to) a) (renamed (Moves Loose to) b) (go a b (sees a b e)) }
+  where
+    stays : (r : Region) → is_absent r ≡ false → (t : Bool) → is_absent (cond t to r) ≡ false
+    stays r e true = there
+    stays r e false = e
+
+    go : (a b : Region) → Sees a b → Sees (renamed (Moves Loose to) a) (renamed (Moves Loose to) b)
+    go a b (frozen e) = frozen (ap (renamed (Moves Loose to)) e)
+    go a b (within e) = within (ap (renamed (Moves Loose to)) e)
+    go a b (across y z e f q) = across y z (ap (renamed (Moves Loose to)) e) (ap (renamed (Moves Loose to)) f) q
 
 pub local-good : (at : Way → Way) (m : Renaming) → IsLocal at m → Good (renamed m)
 local-good at _ (of_own w k x to there) = good-moves (OfVariable (at w) k x) to (of_variable (at w) k x) there
 local-good at _ (of_object n f to there) = good-moves (OfField n f) to (of_field n f) there
+local-good at _ (of_none to there) = good-loose to there
 local-good at _ (ending_at w k to there) = good-ends (at w) k to there
 local-good at _ (joining_at w y z here may) = good-joins y z may
 
@@ -37,6 +52,7 @@ local-good at _ (joining_at w y z here may) = good-joins y z may
 pub local-variable : (at : Way → Way) (m : Renaming) → IsLocal at m → (v : Way) (i x : ℕ) → ((w : Way) → v ≡ at w → ⊥) → renamed m (OfVariable v i x) ≡ OfVariable v i x
 local-variable at _ (of_own w k y to there) v i x off = ap (λ t. cond (t && (nat_eq i k && nat_eq x y)) to (OfVariable v i x)) (differ-way v (at w) (off w))
 local-variable at _ (of_object n f to there) v i x off = refl
+local-variable at _ (of_none to there) v i x off = refl
 local-variable at _ (ending_at w k to there) v i x off = refl
 local-variable at _ (joining_at w y z here may) v i x off = refl
 
@@ -56,6 +72,7 @@ zone-joins at w y z (Under v x) here out = go (zone-joins at w y z x here (under
 pub local-zone : (at : Way → Way) (m : Renaming) → IsLocal at m → (y : Zone) → IsOutside at y → renamed m (OwnOf y) ≡ OwnOf y
 local-zone at _ (of_own w k x to there) y out = refl
 local-zone at _ (of_object n f to there) y out = refl
+local-zone at _ (of_none to there) y out = refl
 local-zone at _ (ending_at w k to there) y out = ap (λ t. cond t to (OwnOf y)) (outside-rooted at y out w k)
 local-zone at _ (joining_at w q z here may) y out = ap (λ r. OwnOf r) (zone-joins at w q z y here out)
 

@@ -76,6 +76,13 @@ are-three at i = record {
   right_left = differ-way (at (GoR Here)) (at (GoL Here)) (sides-differ OnRight at i Here Here);
 }
 
+-- the zone in which a waiting parent stands, and that in which it began, avoid its sides
+pub record ForkAvoids (at : Way → Way) (z : Zone) (b : Branch) : Type 0 where
+  pub top_left : Avoids (at (GoL Here)) (top_zone (at Here) z b.stack)
+  pub top_right : Avoids (at (GoR Here)) (top_zone (at Here) z b.stack)
+  pub start_left : Avoids (at (GoL Here)) z
+  pub start_right : Avoids (at (GoR Here)) z
+
 module _ (u : UnitCode) (labels : Labels) (heap : Heap) where
   -- ---------- what holds at a node ----------
   -- all that holds of a tree at a node: where it stands, what a picture says of it, and that the objects fit
@@ -158,13 +165,6 @@ module _ (u : UnitCode) (labels : Labels) (heap : Heap) where
       }
 
   -- ---------- parents ----------
-  -- the zone in which a waiting parent stands, and that in which it began, avoid its sides
-  pub record ForkAvoids (at : Way → Way) (z : Zone) (b : Branch) : Type 0 where
-    pub top_left : Avoids (at (GoL Here)) (top_zone (at Here) z b.stack)
-    pub top_right : Avoids (at (GoR Here)) (top_zone (at Here) z b.stack)
-    pub start_left : Avoids (at (GoL Here)) z
-    pub start_right : Avoids (at (GoR Here)) z
-
   pub fork-avoids : (k : Ending) (below : List ℕ) (at : Way → Way) (z : Zone) (b : Branch) (p : Blocks) (l r : Task) (H : Vars) → NodeFits k below at z (Fork b p l r) H → ForkAvoids at z b
   fork-avoids k below at z b p l r H node =
       let top = above-top at z b.stack node.nodes node.above in
