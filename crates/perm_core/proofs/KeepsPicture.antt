@@ -47,5 +47,6 @@ pub mod NodePremises
 pub mod LocalChanges
 pub mod NodeChanges
 pub mod WholeTrees
+pub mod NextLabels
 pub mod HiddenFree
 pub mod SideFree
