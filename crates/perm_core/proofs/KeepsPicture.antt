@@ -47,6 +47,7 @@ pub mod NodePremises
 pub mod LocalChanges
 pub mod NodeChanges
 pub mod WholeTrees
+pub mod ParBlocks
 pub mod NextLabels
 pub mod HiddenFree
 pub mod SideFree

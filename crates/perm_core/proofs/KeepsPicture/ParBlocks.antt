@@ -1,0 +1,180 @@
+-- No hidden variable stands in a block of the par that comes next.
+use Rattle.std.proofs.Common.{◌≡◌, ℕ, true, false, List, [], ◌∷◌, refl, sym, ap, ◌∙◌, inl, inr}
+use Rattle.std.specs.Prelude.{◌⊎◌, ◌&&◌, not, Bool}
+use Rattle.std.proofs.lemmas.Bool.{or_cases}
+use Rattle.perm_tree.specs.declared.ast.Span.{Span}
+use Rattle.perm_tree.specs.declared.errors.TypeKind.TheVariants.{Hidden}
+use Rattle.perm_tree.specs.Code.{Code, End, Give, Return, Do, If, While, Par, Recover, UnitCode}
+use Rattle.perm_tree.specs.Mentions.{term_mentions, mentions, mentioned, block_mentions}
+use Rattle.perm_tree.specs.Vars.{Vars, just, those, plus}
+use Rattle.perm_rules.specs.Parts.{Context, RecoverHead}
+use Rattle.perm_rules.specs.Goes.{Goes, hiding}
+use Rattle.perm_rules.specs.Scoping.{given, is_scoped, has_none, hides_tied}
+use Rattle.perm_rules.proofs.PartLaws.{applies-none}
+use Rattle.perm_meaning.specs.Machine.{Frame, OpenBlock, OpenRecover, OpenCall}
+use Rattle.perm_meaning.specs.NamedHeap.{Held}
+use Rattle.perm_meaning.proofs.SameName.{both, eq_true}
+use Rattle.perm_core.specs.Endings.{Ending, ByNothing, ByGive, ByReturn, is_by_give, ends, stack_ends}
+use Rattle.perm_core.specs.Marked.{calls_right}
+use Rattle.perm_core.specs.Picture.{context_of, hidden_above, context_above, RestGoes, stack_right}
+use Rattle.perm_core.proofs.KeepsPicture.CallEnds.{any-left, any-right}
+use Rattle.perm_core.proofs.KeepsPicture.HiddenFree.{hidden-free}
+use Rattle.perm_core.proofs.KeepsPicture.HiddenVariables.{top-goes}
+use Rattle.perm_core.proofs.KeepsPicture.RightCode.{given-one, top-right}
+
+module _ (D : Vars) where
+  -- all of a set is hidden
+  abbrev AllHidden : Context → Type 0
+  AllHidden c = (y : ℕ) → D y ≡ true → those c.hidden y ≡ true
+
+  -- a variable of the set is none that isn't hidden
+  shown-out : (c : Context) (y : ℕ) → AllHidden c → those c.hidden y ≡ false → D y ≡ false
+  shown-out c y all e = go (D y) refl
+    where
+      go : (b : Bool) → D y ≡ b → b ≡ false
+      go false q = refl
+      go true q = absurd (let f : true ≡ false = sym (all y q) ∙ e in let no : ⊥ = cc f in no)
+
+  just-out : (x y : ℕ) → D x ≡ false → just x y ≡ true → D y ≡ false
+  just-out x y e m = ap D (eq_true y x m) ∙ e
+
+  unblocked : (own : List ℕ) (a : Code) (y : ℕ) → block_mentions own a y ≡ true → mentioned a y ≡ true
+  unblocked own a y m = (both (mentioned a y) (not (those own y)) m).0
+
+  none-given : {A : Type 0} → is_by_give ByNothing ≡ true → A
+  none-given e = absurd (let no : ⊥ = cc e in no)
+
+  -- what stands in code that goes where the set is hidden isn't of the set, where what the code gives to isn't
+  pub code-shown : (k : Ending) (c s : Context) (a : Code) (G H U : Vars) → AllHidden c → Goes c a G H → ends k a ≡ true → is_scoped s a U ≡ true → ((y : ℕ) → is_by_give k ≡ true → given a y ≡ true → D y ≡ false) → (y : ℕ) → mentioned a y ≡ true → D y ≡ false
+  code-shown k c s End G H U all goes e scoped gives y m = absurd (let no : ⊥ = cc m in no)
+  code-shown k c s (Give at w x) G H U all goes e scoped gives y m = pick (or_cases (just w y) (just x y) m)
+    where
+      pick : (just w y ≡ true) ⊎ (just x y ≡ true) → D y ≡ false
+      pick (inl q) = just-out w y (hidden-free D c (Give at w x) G H all goes) q
+      pick (inr q) = gives y e q
+  code-shown k c s (Return at r) G H U all goes e scoped gives y m = hidden-free D c (Return at r) G H all goes y m
+  code-shown k c s (Do at i rest) G H U all goes e scoped gives y m = pick (code-shown k c s rest _ H (plus U (mentions i)) all goes.1 e scoped gives y) (or_cases (mentions i y) (mentioned rest y) m)
+    where
+      pick : (mentioned rest y ≡ true → D y ≡ false) → (mentions i y ≡ true) ⊎ (mentioned rest y ≡ true) → D y ≡ false
+      pick later (inl q) = (hidden-free D c (Do at i rest) G H all goes).0 y q
+      pick later (inr q) = later q
+  code-shown k c s (If at t own1 a own2 b rest) G H U all goes e scoped gives y m =
+      let A = block_mentions own1 a in
+      let B = block_mentions own2 b in
+      let V = plus U (plus A B) in
+      let f = both (ends ByNothing a) (ends ByNothing b && ends k rest) e in
+      let g = both (ends ByNothing b) (ends k rest) f.1 in
+      let p = both (has_none U own1 && has_none U own2) (is_scoped s a U && (is_scoped s b U && is_scoped s rest V)) scoped in
+      let q = both (is_scoped s a U) (is_scoped s b U && is_scoped s rest V) p.1 in
+      let r = both (is_scoped s b U) (is_scoped s rest V) q.1 in
+      pick (code-shown ByNothing c s a G goes.1 U all goes.3 f.0 q.0 (λ z n. none-given n) y) (code-shown ByNothing c s b G goes.2 U all goes.4 g.0 r.0 (λ z n. none-given n) y)
+      (code-shown k c s rest _ H V all goes.5 g.1 r.1 gives y) (or_cases (term_mentions t y) (plus A (plus B (mentioned rest)) y) m)
+    where
+      pick : (mentioned a y ≡ true → D y ≡ false) → (mentioned b y ≡ true → D y ≡ false) → (mentioned rest y ≡ true → D y ≡ false) → (term_mentions t y ≡ true) ⊎ (plus (block_mentions own1 a) (plus (block_mentions own2 b) (mentioned rest)) y ≡ true) → D y ≡ false
+      pick first second third (inl q) = (hidden-free D c (If at t own1 a own2 b rest) G H all goes).0 y q
+      pick first second third (inr q) = three (or_cases (block_mentions own1 a y) (plus (block_mentions own2 b) (mentioned rest) y) q)
+        where
+          two : (block_mentions own2 b y ≡ true) ⊎ (mentioned rest y ≡ true) → D y ≡ false
+          two (inl q) = second (unblocked own2 b y q)
+          two (inr q) = third q
+
+          three : (block_mentions own1 a y ≡ true) ⊎ (plus (block_mentions own2 b) (mentioned rest) y ≡ true) → D y ≡ false
+          three (inl q) = first (unblocked own1 a y q)
+          three (inr q) = two (or_cases (block_mentions own2 b y) (mentioned rest y) q)
+  code-shown k c s (While at t own body rest) G H U all goes e scoped gives y m =
+      let B = block_mentions own body in
+      let f = both (ends ByNothing body) (ends k rest) e in
+      let p = both (has_none U own) (is_scoped s body (plus U B) && is_scoped s rest (plus U B)) scoped in
+      let q = both (is_scoped s body (plus U B)) (is_scoped s rest (plus U B)) p.1 in
+      pick (code-shown ByNothing c s body goes.0 goes.1.holds.ends (plus U B) all goes.1.holds.body f.0 q.0 (λ z n. none-given n) y) (code-shown k c s rest goes.0 H (plus U B) all goes.2 f.1 q.1 gives y)
+      (or_cases (term_mentions t y) (plus B (mentioned rest) y) m)
+    where
+      pick : (mentioned body y ≡ true → D y ≡ false) → (mentioned rest y ≡ true → D y ≡ false) → (term_mentions t y ≡ true) ⊎ (plus (block_mentions own body) (mentioned rest) y ≡ true) → D y ≡ false
+      pick first second (inl q) = (hidden-free D c (While at t own body rest) G H all goes).0 y q
+      pick first second (inr q) = two (or_cases (block_mentions own body y) (mentioned rest y) q)
+        where
+          two : (block_mentions own body y ≡ true) ⊎ (mentioned rest y ≡ true) → D y ≡ false
+          two (inl q) = first (unblocked own body y q)
+          two (inr q) = second q
+  code-shown k c s (Par at own1 a own2 b rest) G H U all goes e scoped gives y m =
+      let A = block_mentions own1 a in
+      let B = block_mentions own2 b in
+      let V = plus U (plus A B) in
+      let f = both (ends ByNothing a) (ends ByNothing b && ends k rest) e in
+      let g = both (ends ByNothing b) (ends k rest) f.1 in
+      let p = both (has_none U own1 && has_none U own2) (is_scoped s a U && (is_scoped s b U && is_scoped s rest V)) scoped in
+      let q = both (is_scoped s a U) (is_scoped s b U && is_scoped s rest V) p.1 in
+      let r = both (is_scoped s b U) (is_scoped s rest V) q.1 in
+      pick (code-shown ByNothing c s a G goes.1 U all goes.3 f.0 q.0 (λ z n. none-given n) y) (code-shown ByNothing c s b G goes.2 U all goes.4 g.0 r.0 (λ z n. none-given n) y)
+      (code-shown k c s rest _ H V all goes.5 g.1 r.1 gives y) (or_cases (A y) (plus B (mentioned rest) y) m)
+    where
+      pick : (mentioned a y ≡ true → D y ≡ false) → (mentioned b y ≡ true → D y ≡ false) → (mentioned rest y ≡ true → D y ≡ false) → (block_mentions own1 a y ≡ true) ⊎ (plus (block_mentions own2 b) (mentioned rest) y ≡ true) → D y ≡ false
+      pick first second third (inl q) = first (unblocked own1 a y q)
+      pick first second third (inr q) = two (or_cases (block_mentions own2 b y) (mentioned rest y) q)
+        where
+          two : (block_mentions own2 b y ≡ true) ⊎ (mentioned rest y ≡ true) → D y ≡ false
+          two (inl q) = second (unblocked own2 b y q)
+          two (inr q) = third q
+  code-shown k c s (Recover at x own hides body rest) G H U all goes e scoped gives y m =
+      let B = block_mentions own body in
+      let W = plus U (those hides) in
+      let V = plus (just x) (plus U B) in
+      let f = both (ends ByGive body) (ends k rest) e in
+      let p = both (given body x && (has_none W own && hides_tied s (plus U B) hides)) (is_scoped s body W && is_scoped s rest V) scoped in
+      let q = both (is_scoped s body W) (is_scoped s rest V) p.1 in
+      let gift = (both (given body x) (has_none W own && hides_tied s (plus U B) hides) p.0).0 in
+      let target = shown-out c x all (applies-none c (RecoverHead x) G goes.0 Hidden) in
+      pick target (code-shown ByGive (hiding hides c) s body G goes.1 W (λ z n. any-right z hides c.hidden (all z n)) goes.2 f.0 q.0 (λ z n g. just-out x z target (given-one body x z gift g)) y) (code-shown k c s rest _ H V all goes.3 f.1 q.1 gives y)
+      (or_cases (just x y) (plus B (mentioned rest) y) m)
+    where
+      pick : D x ≡ false → (mentioned body y ≡ true → D y ≡ false) → (mentioned rest y ≡ true → D y ≡ false) → (just x y ≡ true) ⊎ (plus (block_mentions own body) (mentioned rest) y ≡ true) → D y ≡ false
+      pick target first second (inl q) = just-out x y target q
+      pick target first second (inr q) = two (or_cases (block_mentions own body y) (mentioned rest y) q)
+        where
+          two : (block_mentions own body y ≡ true) ⊎ (mentioned rest y ≡ true) → D y ≡ false
+          two (inl q) = first (unblocked own body y q)
+          two (inr q) = second q
+
+-- the blocks of the par that comes next end with nothing
+blocks-end : (k : Ending) (p : Span) (own1 : List ℕ) (a : Code) (own2 : List ℕ) (d rest : Code) (st : List (Frame Held)) → stack_ends k (Par p own1 a own2 d rest) st ≡ true → (ends ByNothing a ≡ true) × (ends ByNothing d ≡ true)
+blocks-end k p own1 a own2 d rest st e = go k (top st e).0 (top st e).1
+  where
+    top : (st : List (Frame Held)) → stack_ends k (Par p own1 a own2 d rest) st ≡ true → (j : Ending) × (ends j (Par p own1 a own2 d rest) ≡ true)
+    top [] e = (k, e)
+    top (OpenBlock own low ∷ st) e = (ByNothing, (both (ends ByNothing (Par p own1 a own2 d rest)) (stack_ends k low st) e).0)
+    top (OpenRecover own hides saved low ∷ st) e = (ByGive, (both (ends ByGive (Par p own1 a own2 d rest)) (stack_ends k low st) e).0)
+    top (OpenCall tie into y saved lent caller low ∷ st) e = (ByReturn, (both (ends ByReturn (Par p own1 a own2 d rest)) (stack_ends k low st) e).0)
+
+    go : (k j : Ending) → ends j (Par p own1 a own2 d rest) ≡ true → (ends ByNothing a ≡ true) × (ends ByNothing d ≡ true)
+    go k j e =
+        let f = both (ends ByNothing a) (ends ByNothing d && ends j rest) e in
+        (f.0, (both (ends ByNothing d) (ends j rest) f.1).0)
+
+-- so no hidden variable stands in one
+pub blocks-aside : (u : UnitCode) (k : Ending) (below : List ℕ) (m : ℕ) (p : Span) (own1 : List ℕ) (a : Code) (own2 : List ℕ) (d rest : Code) (st : List (Frame Held)) (G H U : Vars) → RestGoes u below m (Par p own1 a own2 d rest) st G H → stack_ends k (Par p own1 a own2 d rest) st ≡ true
+    → stack_right u m (Par p own1 a own2 d rest) st U ≡ true → (y : ℕ) → those (hidden_above below st) y ≡ true → (block_mentions own1 a y ≡ false) × (block_mentions own2 d y ≡ false)
+blocks-aside u k below m p own1 a own2 d rest st G H U goes e right y hidden =
+    let g = top-goes u below m (Par p own1 a own2 d rest) st G H goes in
+    let f = blocks-end k p own1 a own2 d rest st e in
+    let c = context_of u m in
+    let V = plus U (plus (block_mentions own1 a) (block_mentions own2 d)) in
+    let s = (both (calls_right c (Par p own1 a own2 d rest)) (is_scoped c (Par p own1 a own2 d rest) U) (top-right u m (Par p own1 a own2 d rest) st U right)).1 in
+    let q = both (has_none U own1 && has_none U own2) (is_scoped c a U && (is_scoped c d U && is_scoped c rest V)) s in
+    let r = both (is_scoped c a U) (is_scoped c d U && is_scoped c rest V) q.1 in
+    let t = both (is_scoped c d U) (is_scoped c rest V) r.1 in (
+      absent own1 a (code-shown D ByNothing (context_above u below m st) c a G g.1.1 U covered g.1.3 f.0 r.0 (λ z n. none-given D n) y),
+      absent own2 d (code-shown D ByNothing (context_above u below m st) c d G g.1.2 U covered g.1.4 f.1 t.0 (λ z n. none-given D n) y),
+    )
+  where
+    D : Vars
+    D = those (hidden_above below st)
+
+    covered : (z : ℕ) → D z ≡ true → those (context_above u below m st).hidden z ≡ true
+    covered z n = any-left z (hidden_above below st) (context_of u m).hidden n
+
+    absent : (own : List ℕ) (e : Code) → (mentioned e y ≡ true → D y ≡ false) → block_mentions own e y ≡ false
+    absent own e shown = go (block_mentions own e y) refl
+      where
+        go : (b : Bool) → block_mentions own e y ≡ b → b ≡ false
+        go false q = refl
+        go true q = absurd (let f : true ≡ false = sym hidden ∙ shown (unblocked D own e y q) in let no : ⊥ = cc f in no)
