@@ -49,5 +49,6 @@ pub mod NodeChanges
 pub mod WholeTrees
 pub mod ParBlocks
 pub mod NextLabels
+pub mod LeafCases
 pub mod HiddenFree
 pub mod SideFree
