@@ -50,5 +50,6 @@ pub mod WholeTrees
 pub mod ParBlocks
 pub mod NextLabels
 pub mod LeafCases
+pub mod PictureEvents
 pub mod HiddenFree
 pub mod SideFree
