@@ -44,6 +44,7 @@ pub mod TrapTurns
 pub mod FewerLive
 pub mod GoesOfTrees
 pub mod NodePremises
+pub mod ForkPremises
 pub mod LocalChanges
 pub mod NodeChanges
 pub mod WholeTrees

@@ -248,7 +248,7 @@ module _ (u : UnitCode) (labels : Labels) (h : Objects Name) where
       ap (λ n. length (context_of u n).vars) (sym routine) ∙ lengths (top_zone (at Here) z b.stack) (at Here) (calls b.stack) (context_of u b.own.routine).vars b.own.vars vars.0 ∙ ap length is.vars
 
   -- no side gives back a value
-  gave-none : (t : Task) (v : Held) (n : ℕ) (p : List ℤ) → final t ≡ Some (GaveBack v n p) → tree_ends ByNothing t ≡ true → ⊥
+  pub gave-none : (t : Task) (v : Held) (n : ℕ) (p : List ℤ) → final t ≡ Some (GaveBack v n p) → tree_ends ByNothing t ≡ true → ⊥
   gave-none (Fork b q l r) v n p e ends = none_some e
   gave-none (Leaf b) v n p e ends = by_close b.close e ends
     where
