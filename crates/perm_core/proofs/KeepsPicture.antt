@@ -51,6 +51,7 @@ pub mod WholeTrees
 pub mod ParBlocks
 pub mod NextLabels
 pub mod LeafCases
+pub mod JoinCases
 pub mod PictureEvents
 pub mod HiddenFree
 pub mod SideFree
