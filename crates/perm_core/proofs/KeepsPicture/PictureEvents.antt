@@ -1,4 +1,4 @@
--- Variables and objects fit the next picture after each event, where the turns do that load, take or call, and the joins.
+-- Variables and objects fit the next picture after each event, where they do after the turns that read an object, take a field's value or begin a call.
 use Rattle.std.proofs.Common.{◌≡◌, ℕ, Bool, false, refl, Option, Some, None, List, ◌∷◌, sym, subst, inl, inr}
 use Rattle.std.specs.Prelude.{◌⊎◌}
 use Rattle.perm_tree.specs.declared.ast.Span.{Span}
@@ -8,8 +8,8 @@ use Rattle.perm_meaning.specs.Names.{Mark}
 use Rattle.perm_meaning.specs.Expressions.{tagged}
 use Rattle.perm_meaning.specs.Effects.{Tick, first_vars}
 use Rattle.perm_meaning.specs.Custody.{Moves, while_called, lent_by}
-use Rattle.perm_meaning.specs.Machine.{Frame, OpenCall, Blocks, Close, Leaf, Fork, Way, Here, Final, final, Did, On}
-use Rattle.perm_meaning.specs.NamedHeap.{Held, Heap, Op, Own, Branch, Task, find}
+use Rattle.perm_meaning.specs.Machine.{Frame, OpenCall, Close, Leaf, Fork, Way, Here, Did, On}
+use Rattle.perm_meaning.specs.NamedHeap.{Held, Heap, Op, Own, Task, find}
 use Rattle.perm_meaning.specs.Steps.{Found, Refused, within}
 use Rattle.perm_core.specs.Core.{look}
 use Rattle.perm_core.specs.Claims.{IsChecked}
@@ -17,9 +17,10 @@ use Rattle.perm_core.specs.Endings.{Ending}
 use Rattle.perm_core.specs.Regions.{Zone, Labels}
 use Rattle.perm_core.specs.NextPicture.{is_failing}
 use Rattle.perm_core.specs.Unproved.{KeepsPicture}
+use Rattle.perm_core.proofs.KeepsPicture.JoinCases.{join-case}
 use Rattle.perm_core.proofs.KeepsPicture.LeafCases.{branch, LeafWith, TurnOf, assign-turn, write-turn, create-turn, part-turn, give-turn, return-turn}
 use Rattle.perm_core.proofs.KeepsPicture.LeafTurns.{Acts, declares, assigns, loads, measures, reads, takes, stores, writes, prints, Stays, Begins, Goes_in, TurnTo, dying, ending, acting, making, beginning, left_block, right_block, into_loop, out_of_loop, parting, recovering, giving, returning}
-use Rattle.perm_core.proofs.KeepsPicture.NextLabels.{JoinFits, leaf-next, refused-next, join-next}
+use Rattle.perm_core.proofs.KeepsPicture.NextLabels.{leaf-next, refused-next, join-next}
 use Rattle.perm_core.proofs.KeepsPicture.NodePremises.{NodeFits}
 use Rattle.perm_core.proofs.KeepsPicture.Order.{keeps_order}
 use Rattle.perm_core.proofs.KeepsPicture.PlainTurns.{plain-fits}
@@ -34,14 +35,13 @@ IsRead (TakeField x y f) = Unit {0}
 IsRead i = ⊥
 
 module _ (u : UnitCode) (limit : ℕ) where
-  -- the turns that are proved elsewhere: reads, calls that begin, and joins
+  -- the turns that are proved elsewhere: reads, and calls that begin
   pub record OtherTurns : Type 0 where
     pub read : (labels : Labels) (heap : Heap) (k : Ending) (below : List ℕ) (at : Way → Way) (z : Zone) (H : Vars) (l : Own) (n : ℕ) (close : Option (Close Held)) (span : Span) (i : Instruction) (rest : Code) (st : List (Frame Held)) (o : Op) (w : Held) (vs : List Held) (l' : Own) (t : ℕ)
         → IsRead i → LeafWith u limit labels heap k below at z H l n close (Do span i rest) st → find (within limit) o heap ≡ Found w → Acts u l w i o vs → Stays u l l' vs → TurnOf u limit labels heap k below at z H l n close (Do span i rest) st o t (On l' rest st)
     pub begin : (labels : Labels) (heap : Heap) (k : Ending) (below : List ℕ) (at : Way → Way) (z : Zone) (H : Vars) (l : Own) (n : ℕ) (close : Option (Close Held)) (span : Span) (rest : Code) (st : List (Frame Held)) (into : Option ℕ) (tie : Tie) (consumed : Bool) (y m : ℕ) (args : List Argument) (r : Routine) (this : Held) (found vs saved : List Held) (lent : Option Held) (l' : Own) (c : Code) (caller : ℕ) (t : ℕ)
         → LeafWith u limit labels heap k below at z H l n close (Do span (Invoke into tie consumed y m args) rest) st → Begins u l tie consumed y m args r this found vs → c ≡ r.code → saved ≡ while_called tagged Moves tie y vs → lent ≡ lent_by Moves tie this → caller ≡ l.routine → Goes_in u l l' m (first_vars tagged r this found)
         → TurnOf u limit labels heap k below at z H l n close (Do span (Invoke into tie consumed y m args) rest) st Tick t (On l' c (OpenCall tie into y saved lent caller rest ∷ st))
-    pub join : (labels : Labels) (heap : Heap) (k : Ending) (below : List ℕ) (at : Way → Way) (z : Zone) (b : Branch) (p : Blocks) (l r : Task) (H : Vars) (x y : Final Held) → NodeFits u labels heap k below at z (Fork b p l r) H → final l ≡ Some x → final r ≡ Some y → JoinFits u limit labels heap at z b p x y
 
   module _ (others : OtherTurns) (labels : Labels) (heap : Heap) where
     -- ---------- leaves ----------
@@ -106,7 +106,7 @@ module _ (u : UnitCode) (limit : ℕ) where
     -- the event of a node leaves what fits the next labels
     node-next : (o : Op) (v : Option Held) → ((x : Held) × ((v ≡ Some x) × (find (within limit) o heap ≡ Found x))) ⊎ ((v ≡ None) × (find (within limit) o heap ≡ Refused))
         → (k : Ending) (below : List ℕ) (at : Way → Way) (z : Zone) (t : Task) (H : Vars) → NodeFits u labels heap k below at z t H → look u Here t ≡ Some o → IsNext u limit labels heap o v at z Here t
-    node-next o v answer k below at z (Fork b p l r) H node asks = join-next u limit labels heap k below at z b p l r H o v node asks (λ x y left right. others.join labels heap k below at z b p l r H x y node left right)
+    node-next o v answer k below at z (Fork b p l r) H node asks = join-next u limit labels heap k below at z b p l r H o v node asks (λ x y left right. join-case u limit labels heap k below at z b p l r H node x y left right)
     node-next o v (inl (x, (same, answered))) k below at z (Leaf b) H node asks =
         subst (λ (q : Option Held). IsNext u limit labels heap o q at z Here (Leaf b)) (sym same)
         (leaf-next u limit labels heap k below at z b H o x node asks answered (λ t d leaf turn goes. any-turn k below at z H b.own b.turns b.close x b.code b.stack o t d leaf answered turn goes))
