@@ -23,7 +23,7 @@ module _ (t : Vars) (y : ℕ) where
       go (inl q) = f (or_parts a b e).0 q
       go (inr q) = g (or_parts a b e).1 q
 
-  just-none : (x : ℕ) → t x ≡ false → nat_eq y x ≡ true → t y ≡ false
+  pub just-none : (x : ℕ) → t x ≡ false → nat_eq y x ≡ true → t y ≡ false
   just-none x e m = ap t (eq_true y x m) ∙ e
 
   term-none : (e : Term) → any_in_term t e ≡ false → term_mentions e y ≡ true → t y ≡ false
@@ -66,10 +66,10 @@ module _ (t : Vars) (y : ℕ) where
 
 -- of what is hidden nothing stands in the code
 module _ (D : Vars) where
-  abbrev AllHidden : Context → Type 0
+  abbrev pub AllHidden : Context → Type 0
   AllHidden c = (y : ℕ) → D y ≡ true → those c.hidden y ≡ true
 
-  out : (c : Context) (y : ℕ) → AllHidden c → those c.hidden y ≡ false → D y ≡ false
+  pub out : (c : Context) (y : ℕ) → AllHidden c → those c.hidden y ≡ false → D y ≡ false
   out c y all e = go (D y) refl
     where
       go : (b : Bool) → D y ≡ b → D y ≡ false

@@ -88,7 +88,7 @@ module _ (u : UnitCode) where
   top-goes below m c [] G H goes = (H, goes)
   top-goes below m c (f ∷ st) G H goes = (goes.0, goes.1)
 
-  covered : (below : List ℕ) (m : ℕ) (st : List (Frame Held)) (x : ℕ) → those (hidden_above below st) x ≡ true → those (context_above u below m st).hidden x ≡ true
+  pub covered : (below : List ℕ) (m : ℕ) (st : List (Frame Held)) (x : ℕ) → those (hidden_above below st) x ≡ true → those (context_above u below m st).hidden x ≡ true
   covered below m st x e = any-left x (hidden_above below st) (context_of u m).hidden e
 
   pub uncovered : (below : List ℕ) (m : ℕ) (st : List (Frame Held)) (x : ℕ) → those (context_above u below m st).hidden x ≡ false → those (hidden_above below st) x ≡ false

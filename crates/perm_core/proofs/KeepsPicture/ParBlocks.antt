@@ -1,5 +1,5 @@
 -- No hidden variable stands in a block of the par that comes next.
-use Rattle.std.proofs.Common.{◌≡◌, ℕ, true, false, List, [], ◌∷◌, refl, sym, ap, ◌∙◌, inl, inr}
+use Rattle.std.proofs.Common.{◌≡◌, ℕ, true, false, List, [], ◌∷◌, refl, sym, ◌∙◌, inl, inr}
 use Rattle.std.specs.Prelude.{◌⊎◌, ◌&&◌, not, Bool}
 use Rattle.std.proofs.lemmas.Bool.{or_cases}
 use Rattle.perm_tree.specs.declared.ast.Span.{Span}
@@ -13,44 +13,31 @@ use Rattle.perm_rules.specs.Scoping.{given, is_scoped, has_none, hides_tied}
 use Rattle.perm_rules.proofs.PartLaws.{applies-none}
 use Rattle.perm_meaning.specs.Machine.{Frame, OpenBlock, OpenRecover, OpenCall}
 use Rattle.perm_meaning.specs.NamedHeap.{Held}
-use Rattle.perm_meaning.proofs.SameName.{both, eq_true}
+use Rattle.perm_meaning.proofs.SameName.{both}
 use Rattle.perm_core.specs.Endings.{Ending, ByNothing, ByGive, ByReturn, is_by_give, ends, stack_ends}
 use Rattle.perm_core.specs.Marked.{calls_right}
 use Rattle.perm_core.specs.Picture.{context_of, hidden_above, context_above, RestGoes, stack_right}
-use Rattle.perm_core.proofs.KeepsPicture.CallEnds.{any-left, any-right}
-use Rattle.perm_core.proofs.KeepsPicture.HiddenFree.{hidden-free}
-use Rattle.perm_core.proofs.KeepsPicture.HiddenVariables.{top-goes}
+use Rattle.perm_core.proofs.KeepsPicture.CallEnds.{any-right}
+use Rattle.perm_core.proofs.KeepsPicture.HiddenFree.{AllHidden, out, just-none, hidden-free}
+use Rattle.perm_core.proofs.KeepsPicture.HiddenVariables.{top-goes, covered}
 use Rattle.perm_core.proofs.KeepsPicture.RightCode.{given-one, top-right}
 
+-- what stands in a block's outer part stands in the block
+unblocked : (own : List ℕ) (a : Code) (y : ℕ) → block_mentions own a y ≡ true → mentioned a y ≡ true
+unblocked own a y m = (both (mentioned a y) (not (those own y)) m).0
+
+-- code that ends with nothing gives to no variable
+none-given : {A : Type 0} → is_by_give ByNothing ≡ true → A
+none-given e = absurd (let no : ⊥ = cc e in no)
+
 module _ (D : Vars) where
-  -- all of a set is hidden
-  abbrev AllHidden : Context → Type 0
-  AllHidden c = (y : ℕ) → D y ≡ true → those c.hidden y ≡ true
-
-  -- a variable of the set is none that isn't hidden
-  shown-out : (c : Context) (y : ℕ) → AllHidden c → those c.hidden y ≡ false → D y ≡ false
-  shown-out c y all e = go (D y) refl
-    where
-      go : (b : Bool) → D y ≡ b → b ≡ false
-      go false q = refl
-      go true q = absurd (let f : true ≡ false = sym (all y q) ∙ e in let no : ⊥ = cc f in no)
-
-  just-out : (x y : ℕ) → D x ≡ false → just x y ≡ true → D y ≡ false
-  just-out x y e m = ap D (eq_true y x m) ∙ e
-
-  unblocked : (own : List ℕ) (a : Code) (y : ℕ) → block_mentions own a y ≡ true → mentioned a y ≡ true
-  unblocked own a y m = (both (mentioned a y) (not (those own y)) m).0
-
-  none-given : {A : Type 0} → is_by_give ByNothing ≡ true → A
-  none-given e = absurd (let no : ⊥ = cc e in no)
-
   -- what stands in code that goes where the set is hidden isn't of the set, where what the code gives to isn't
-  pub code-shown : (k : Ending) (c s : Context) (a : Code) (G H U : Vars) → AllHidden c → Goes c a G H → ends k a ≡ true → is_scoped s a U ≡ true → ((y : ℕ) → is_by_give k ≡ true → given a y ≡ true → D y ≡ false) → (y : ℕ) → mentioned a y ≡ true → D y ≡ false
+  pub code-shown : (k : Ending) (c s : Context) (a : Code) (G H U : Vars) → AllHidden D c → Goes c a G H → ends k a ≡ true → is_scoped s a U ≡ true → ((y : ℕ) → is_by_give k ≡ true → given a y ≡ true → D y ≡ false) → (y : ℕ) → mentioned a y ≡ true → D y ≡ false
   code-shown k c s End G H U all goes e scoped gives y m = absurd (let no : ⊥ = cc m in no)
   code-shown k c s (Give at w x) G H U all goes e scoped gives y m = pick (or_cases (just w y) (just x y) m)
     where
       pick : (just w y ≡ true) ⊎ (just x y ≡ true) → D y ≡ false
-      pick (inl q) = just-out w y (hidden-free D c (Give at w x) G H all goes) q
+      pick (inl q) = just-none D y w (hidden-free D c (Give at w x) G H all goes) q
       pick (inr q) = gives y e q
   code-shown k c s (Return at r) G H U all goes e scoped gives y m = hidden-free D c (Return at r) G H all goes y m
   code-shown k c s (Do at i rest) G H U all goes e scoped gives y m = pick (code-shown k c s rest _ H (plus U (mentions i)) all goes.1 e scoped gives y) (or_cases (mentions i y) (mentioned rest y) m)
@@ -123,12 +110,12 @@ module _ (D : Vars) where
       let p = both (given body x && (has_none W own && hides_tied s (plus U B) hides)) (is_scoped s body W && is_scoped s rest V) scoped in
       let q = both (is_scoped s body W) (is_scoped s rest V) p.1 in
       let gift = (both (given body x) (has_none W own && hides_tied s (plus U B) hides) p.0).0 in
-      let target = shown-out c x all (applies-none c (RecoverHead x) G goes.0 Hidden) in
-      pick target (code-shown ByGive (hiding hides c) s body G goes.1 W (λ z n. any-right z hides c.hidden (all z n)) goes.2 f.0 q.0 (λ z n g. just-out x z target (given-one body x z gift g)) y) (code-shown k c s rest _ H V all goes.3 f.1 q.1 gives y)
+      let target = out D c x all (applies-none c (RecoverHead x) G goes.0 Hidden) in
+      pick target (code-shown ByGive (hiding hides c) s body G goes.1 W (λ z n. any-right z hides c.hidden (all z n)) goes.2 f.0 q.0 (λ z n g. just-none D z x target (given-one body x z gift g)) y) (code-shown k c s rest _ H V all goes.3 f.1 q.1 gives y)
       (or_cases (just x y) (plus B (mentioned rest) y) m)
     where
       pick : D x ≡ false → (mentioned body y ≡ true → D y ≡ false) → (mentioned rest y ≡ true → D y ≡ false) → (just x y ≡ true) ⊎ (plus (block_mentions own body) (mentioned rest) y ≡ true) → D y ≡ false
-      pick target first second (inl q) = just-out x y target q
+      pick target first second (inl q) = just-none D y x target q
       pick target first second (inr q) = two (or_cases (block_mentions own body y) (mentioned rest y) q)
         where
           two : (block_mentions own body y ≡ true) ⊎ (mentioned rest y ≡ true) → D y ≡ false
@@ -162,19 +149,16 @@ blocks-aside u k below m p own1 a own2 d rest st G H U goes e right y hidden =
     let q = both (has_none U own1 && has_none U own2) (is_scoped c a U && (is_scoped c d U && is_scoped c rest V)) s in
     let r = both (is_scoped c a U) (is_scoped c d U && is_scoped c rest V) q.1 in
     let t = both (is_scoped c d U) (is_scoped c rest V) r.1 in (
-      absent own1 a (code-shown D ByNothing (context_above u below m st) c a G g.1.1 U covered g.1.3 f.0 r.0 (λ z n. none-given D n) y),
-      absent own2 d (code-shown D ByNothing (context_above u below m st) c d G g.1.2 U covered g.1.4 f.1 t.0 (λ z n. none-given D n) y),
+      absent own1 a (code-shown D ByNothing (context_above u below m st) c a G g.1.1 U (covered u below m st) g.1.3 f.0 r.0 (λ z n. none-given n) y),
+      absent own2 d (code-shown D ByNothing (context_above u below m st) c d G g.1.2 U (covered u below m st) g.1.4 f.1 t.0 (λ z n. none-given n) y),
     )
   where
     D : Vars
     D = those (hidden_above below st)
-
-    covered : (z : ℕ) → D z ≡ true → those (context_above u below m st).hidden z ≡ true
-    covered z n = any-left z (hidden_above below st) (context_of u m).hidden n
 
     absent : (own : List ℕ) (e : Code) → (mentioned e y ≡ true → D y ≡ false) → block_mentions own e y ≡ false
     absent own e shown = go (block_mentions own e y) refl
       where
         go : (b : Bool) → block_mentions own e y ≡ b → b ≡ false
         go false q = refl
-        go true q = absurd (let f : true ≡ false = sym hidden ∙ shown (unblocked D own e y q) in let no : ⊥ = cc f in no)
+        go true q = absurd (let f : true ≡ false = sym hidden ∙ shown (unblocked own e y q) in let no : ⊥ = cc f in no)
