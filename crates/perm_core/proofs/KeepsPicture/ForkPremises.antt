@@ -1,13 +1,14 @@
 -- What holds of a waiting parent and its sides in a tree with a picture, and that the variables of a side that went well fit.
 use Rattle.std.proofs.Common.{◌≡◌, ℕ, Bool, true, Option, Some, None, List, refl, sym, ap, subst, ◌∙◌}
 use Rattle.std.specs.Prelude.{ℤ, ◌&&◌, ◌||◌, not, nat_eq}
+use Rattle.std.proofs.lemmas.Bool.{and_parts}
 use Rattle.perm_tree.specs.Code.{UnitCode}
 use Rattle.perm_tree.specs.Vars.{Vars}
 use Rattle.perm_meaning.specs.Names.{Name}
 use Rattle.perm_meaning.specs.Machine.{Frame, Blocks, Close, Leaf, Fork, Way, Here, GoL, GoR, Fine, final}
 use Rattle.perm_meaning.specs.NamedHeap.{Held, Heap, Branch, Task}
 use Rattle.perm_meaning.proofs.Leads.{none_some}
-use Rattle.perm_meaning.proofs.SameName.{both, eq_true}
+use Rattle.perm_meaning.proofs.SameName.{eq_true}
 use Rattle.perm_core.specs.Endings.{Ending, ByNothing, is_open, stack_ends, tree_ends}
 use Rattle.perm_core.specs.Regions.{Zone, Labels, calls, top_zone, left_zone, right_zone}
 use Rattle.perm_core.specs.Picture.{context_of, mode_in, variables_fit, stack_fits, has_end, branch_fits, tree_fits, object_fits, hidden_above, lowest, stands_in, sides_stand, none_valued, stack_hidden, branch_hidden, tree_hidden}
@@ -42,15 +43,15 @@ module _ (u : UnitCode) (labels : Labels) (heap : Heap) where
       let stack : Bool = stack_fits u labels heap.objects (at Here) z b.own.routine b.stack in
       let left : Bool = tree_fits u labels heap.objects (λ w. at (GoL w)) (left_zone m (at (GoL Here)) top) l in
       let right : Bool = tree_fits u labels heap.objects (λ w. at (GoR w)) (right_zone m (at (GoR Here)) top) r in
-      let e = both (is_open b.close && stack_ends k b.code b.stack) (tree_ends ByNothing l && tree_ends ByNothing r) node.is.ends in
-      let sides_end = both (tree_ends ByNothing l) (tree_ends ByNothing r) e.1 in
-      let none = closed b.close (both (is_open b.close) (stack_ends k b.code b.stack) e.0).0 in
-      let f = both (branch_fits u labels heap.objects (at Here) z b) (left && right) node.is.variables in
-      let sides = both left right f.1 in
-      let mine = both held stack (sym (ap (λ c. has_end u labels heap.objects c || (held && stack)) none) ∙ f.0) in
-      let hid = both (none_valued (hidden_above below b.stack) b.own.vars) (stack_hidden below b.code b.stack)
-      (both (branch_hidden below b) (tree_hidden (hidden_above below b.stack) l && tree_hidden (hidden_above below b.stack) r) node.is.hidden).0 in
-      let stand = both (stands_in b.own.routine l) (stands_in b.own.routine r) (both (stands_in b.own.routine l && stands_in b.own.routine r) (sides_stand l && sides_stand r) node.is.stand).0 in
+      let e = and_parts (is_open b.close && stack_ends k b.code b.stack) (tree_ends ByNothing l && tree_ends ByNothing r) node.is.ends in
+      let sides_end = and_parts (tree_ends ByNothing l) (tree_ends ByNothing r) e.1 in
+      let none = closed b.close (and_parts (is_open b.close) (stack_ends k b.code b.stack) e.0).0 in
+      let f = and_parts (branch_fits u labels heap.objects (at Here) z b) (left && right) node.is.variables in
+      let sides = and_parts left right f.1 in
+      let mine = and_parts held stack (sym (ap (λ c. has_end u labels heap.objects c || (held && stack)) none) ∙ f.0) in
+      let hid = and_parts (none_valued (hidden_above below b.stack) b.own.vars) (stack_hidden below b.code b.stack)
+      (and_parts (branch_hidden below b) (tree_hidden (hidden_above below b.stack) l && tree_hidden (hidden_above below b.stack) r) node.is.hidden).0 in
+      let stand = and_parts (stands_in b.own.routine l) (stands_in b.own.routine r) (and_parts (stands_in b.own.routine l && stands_in b.own.routine r) (sides_stand l && sides_stand r) node.is.stand).0 in
       record {
         low = node.low;
         three = are-three at node.nodes;
@@ -80,7 +81,7 @@ module _ (u : UnitCode) (labels : Labels) (heap : Heap) where
   fine-vars at z m (Leaf b) vs n p e fit stand =
       let held : Bool = variables_fit u labels heap.objects (top_zone (at Here) z b.stack) (at Here) (calls b.stack) 0 (context_of u b.own.routine).vars b.own.vars in
       let stack : Bool = stack_fits u labels heap.objects (at Here) z b.own.routine b.stack in
-      let vars = (both held stack (sym (ap (λ c. has_end u labels heap.objects c || (held && stack)) is.close) ∙ fit)).0 in
+      let vars = (and_parts held stack (sym (ap (λ c. has_end u labels heap.objects c || (held && stack)) is.close) ∙ fit)).0 in
       subst (λ (ws : List Held). variables_fit u labels heap.objects z (at Here) 0 0 (context_of u m).vars ws ≡ true) is.vars
       (subst (λ (r : ℕ). variables_fit u labels heap.objects z (at Here) 0 0 (context_of u r).vars b.own.vars ≡ true) routine
       (subst (λ (st : List (Frame Held)). variables_fit u labels heap.objects (top_zone (at Here) z st) (at Here) (calls st) 0 (context_of u b.own.routine).vars b.own.vars ≡ true) is.stack vars))

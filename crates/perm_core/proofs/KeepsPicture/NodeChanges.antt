@@ -1,6 +1,7 @@
 -- What the event of a node does to the labels is a change of that node's own: of its variables and its sides', of fields, of zones that begin there, and of the name that it gives.
 use Rattle.std.proofs.Common.{◌≡◌, ℕ, suc, ◌<◌, Bool, true, false, Option, Some, None, List, [], ◌∷◌, ◌++◌, refl, sym, subst}
 use Rattle.std.specs.Prelude.{not, cond, slice_get}
+use Rattle.std.proofs.lemmas.Bool.{and_parts}
 use Rattle.perm_tree.specs.declared.ast.Perm.{Perm}
 use Rattle.perm_tree.specs.declared.ast.Perm.TheVariants.{Isolated, Immutable, Readable, Writable}
 use Rattle.perm_tree.specs.declared.ast.Shape.{Shape}
@@ -18,7 +19,6 @@ use Rattle.perm_meaning.specs.Custody.{mentions_l, mentions_r, back_l, back_r}
 use Rattle.perm_meaning.specs.Machine.{Frame, OpenBlock, OpenRecover, OpenCall, Blocks, Way, Here, GoL, GoR}
 use Rattle.perm_meaning.specs.NamedHeap.{Held, Heap, Branch}
 use Rattle.perm_meaning.specs.Turns.{blocks}
-use Rattle.perm_meaning.proofs.SameName.{both}
 use Rattle.perm_core.specs.Endings.{Ending}
 use Rattle.perm_core.specs.Regions.{Zone, Base, Under, Region, Frozen, OwnOf, OfVariable, OfField, Loose, Labels, is_absent, var_may_lead, calls, zones, top_zone}
 use Rattle.perm_core.specs.Picture.{context_of, mode_in, has_shape, value_fits, values_fit, object_fits}
@@ -156,7 +156,7 @@ module _ (at : Way → Way) where
         where
           labelled : (r : Name) (s : Shape) (n : ℕ) (o : Option (Object Name)) → has_shape o s n ≡ true → object_fits u labels heap.objects r o ≡ true → is_absent (labels r) ≡ false
           labelled r s n None e f = absurd (let no : ⊥ = cc e in no)
-          labelled r s n (Some o) e f = was-not (is_absent (labels r)) (both (not (is_absent (labels r))) (values_fit u labels heap.objects r o.shape o.values) f).0
+          labelled r s n (Some o) e f = was-not (is_absent (labels r)) (and_parts (not (is_absent (labels r))) (values_fit u labels heap.objects r o.shape o.values) f).0
             where
               was-not : (t : Bool) → not t ≡ true → t ≡ false
               was-not true e = absurd (let no : ⊥ = cc e in no)
@@ -165,7 +165,7 @@ module _ (at : Way → Way) where
           typed : (t : Ty) (r : Name) (n : ℕ) → value_fits heap.objects (λ p m. var_may_lead p (OfVariable (at Here) (calls b.stack) y) (top_zone (at Here) z b.stack) (labels m)) t (Reference r n) ≡ true → is_absent (labels r) ≡ false
           typed Long r n e = absurd (let no : ⊥ = cc e in no)
           typed Boolean r n e = absurd (let no : ⊥ = cc e in no)
-          typed (Ref p s) r n e = labelled r s n (heap.objects r) (both (has_shape (heap.objects r) s n) (var_may_lead p (OfVariable (at Here) (calls b.stack) y) (top_zone (at Here) z b.stack) (labels r)) e).0 (leaf.objects r)
+          typed (Ref p s) r n e = labelled r s n (heap.objects r) (and_parts (has_shape (heap.objects r) s n) (var_may_lead p (OfVariable (at Here) (calls b.stack) y) (top_zone (at Here) z b.stack) (labels r)) e).0 (leaf.objects r)
 
           go : (o : Option Held) → slice_get b.own.vars y ≡ o → is_absent (region_of u labels o) ≡ false
           go None q = refl

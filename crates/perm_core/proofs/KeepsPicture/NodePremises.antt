@@ -3,6 +3,7 @@ use Rattle.std.proofs.Common.{◌≡◌, ℕ, suc, Bool, true, false, None, List
 use Rattle.std.specs.Prelude.{◌&&◌, ◌||◌, nat_eq}
 use Rattle.std.proofs.lemmas.Bool.Decides.{nat_tests}
 use Rattle.std.proofs.Math.Bool.{and-false}
+use Rattle.std.proofs.lemmas.Bool.{and_parts}
 use Rattle.perm_tree.specs.Code.{UnitCode}
 use Rattle.perm_tree.specs.Vars.{Vars}
 use Rattle.perm_rules.specs.declared.ParMode.{ParMode}
@@ -10,7 +11,6 @@ use Rattle.perm_rules.specs.declared.ParMode.TheVariants.{Symmetric, LeftAlone, 
 use Rattle.perm_meaning.specs.Names.{Name, Side, OnLeft, OnRight, next_name}
 use Rattle.perm_meaning.specs.Machine.{Blocks, Leaf, Fork, Way, Here, GoL, GoR, Due, stage}
 use Rattle.perm_meaning.specs.NamedHeap.{Heap, Branch, Task, State}
-use Rattle.perm_meaning.proofs.SameName.{both}
 use Rattle.perm_core.specs.Endings.{Ending, ByReturn, ByNothing, is_settled, stack_ends, branch_ends}
 use Rattle.perm_core.specs.Regions.{Zone, Base, Under, Labels, same_way, calls, top_zone, left_zone, right_zone}
 use Rattle.perm_core.specs.Picture.{context_of, mode_in, variables_fit, stack_fits, has_end, object_fits, valued, hidden_above, RestGoes, TreeGoes, stack_right, none_valued, stack_hidden, MayBeGiven, next, PathsFit, IsPicture}
@@ -148,15 +148,15 @@ module _ (u : UnitCode) (labels : Labels) (heap : Heap) where
   leaf-fits k below at z b H t node open_ due =
       let held : Bool = variables_fit u labels heap.objects (top_zone (at Here) z b.stack) (at Here) (calls b.stack) 0 (context_of u b.own.routine).vars b.own.vars in
       let stack : Bool = stack_fits u labels heap.objects (at Here) z b.own.routine b.stack in
-      let f = both held stack (sym (ap (λ c. has_end u labels heap.objects c || (held && stack)) open_) ∙ node.is.variables) in
-      let hid = both (none_valued (hidden_above below b.stack) b.own.vars) (stack_hidden below b.code b.stack) node.is.hidden in
+      let f = and_parts held stack (sym (ap (λ c. has_end u labels heap.objects c || (held && stack)) open_) ∙ node.is.variables) in
+      let hid = and_parts (none_valued (hidden_above below b.stack) b.own.vars) (stack_hidden below b.code b.stack) node.is.hidden in
       record {
         low = node.low;
         three = are-three at node.nodes;
         vars = f.0;
         stack = f.1;
         goes = unfailed u below b H t due node.goes;
-        ends = (both (is_settled b.code b.stack) (stack_ends k b.code b.stack) (sym (ap (λ c. branch_ends k c b.code b.stack) open_) ∙ node.is.ends)).1;
+        ends = (and_parts (is_settled b.code b.stack) (stack_ends k b.code b.stack) (sym (ap (λ c. branch_ends k c b.code b.stack) open_) ∙ node.is.ends)).1;
         right = node.is.right;
         shown = hid.0;
         hid = hid.1;

@@ -1,7 +1,7 @@
 -- No hidden variable stands in a block of the par that comes next.
 use Rattle.std.proofs.Common.{◌≡◌, ℕ, true, false, List, [], ◌∷◌, refl, sym, ◌∙◌, inl, inr}
 use Rattle.std.specs.Prelude.{◌⊎◌, ◌&&◌, not, Bool}
-use Rattle.std.proofs.lemmas.Bool.{or_cases}
+use Rattle.std.proofs.lemmas.Bool.{or_cases, and_parts}
 use Rattle.perm_tree.specs.declared.ast.Span.{Span}
 use Rattle.perm_tree.specs.declared.errors.TypeKind.TheVariants.{Hidden}
 use Rattle.perm_tree.specs.Code.{Code, End, Give, Return, Do, If, While, Par, Recover, UnitCode}
@@ -13,7 +13,6 @@ use Rattle.perm_rules.specs.Scoping.{given, is_scoped, has_none, hides_tied}
 use Rattle.perm_rules.proofs.PartLaws.{applies-none}
 use Rattle.perm_meaning.specs.Machine.{Frame, OpenBlock, OpenRecover, OpenCall}
 use Rattle.perm_meaning.specs.NamedHeap.{Held}
-use Rattle.perm_meaning.proofs.SameName.{both}
 use Rattle.perm_core.specs.Endings.{Ending, ByNothing, ByGive, ByReturn, is_by_give, ends, stack_ends}
 use Rattle.perm_core.specs.Marked.{calls_right}
 use Rattle.perm_core.specs.Picture.{context_of, hidden_above, context_above, RestGoes, stack_right}
@@ -24,7 +23,7 @@ use Rattle.perm_core.proofs.KeepsPicture.RightCode.{given-one, top-right}
 
 -- what stands in a block's outer part stands in the block
 unblocked : (own : List ℕ) (a : Code) (y : ℕ) → block_mentions own a y ≡ true → mentioned a y ≡ true
-unblocked own a y m = (both (mentioned a y) (not (those own y)) m).0
+unblocked own a y m = (and_parts (mentioned a y) (not (those own y)) m).0
 
 -- code that ends with nothing gives to no variable
 none-given : {A : Type 0} → is_by_give ByNothing ≡ true → A
@@ -49,13 +48,13 @@ module _ (D : Vars) where
       let A = block_mentions own1 a in
       let B = block_mentions own2 b in
       let V = plus U (plus A B) in
-      let f = both (ends ByNothing a) (ends ByNothing b && ends k rest) e in
-      let g = both (ends ByNothing b) (ends k rest) f.1 in
-      let p = both (has_none U own1 && has_none U own2) (is_scoped s a U && (is_scoped s b U && is_scoped s rest V)) scoped in
-      let q = both (is_scoped s a U) (is_scoped s b U && is_scoped s rest V) p.1 in
-      let r = both (is_scoped s b U) (is_scoped s rest V) q.1 in
-      pick (code-shown ByNothing c s a G goes.1 U all goes.3 f.0 q.0 (λ z n. none-given n) y) (code-shown ByNothing c s b G goes.2 U all goes.4 g.0 r.0 (λ z n. none-given n) y)
-      (code-shown k c s rest _ H V all goes.5 g.1 r.1 gives y) (or_cases (term_mentions t y) (plus A (plus B (mentioned rest)) y) m)
+      let f = and_parts (ends ByNothing a) (ends ByNothing b && ends k rest) e in
+      let g = and_parts (ends ByNothing b) (ends k rest) f.1 in
+      let p = and_parts (has_none U own1 && has_none U own2) (is_scoped s a U && (is_scoped s b U && is_scoped s rest V)) scoped in
+      let q = and_parts (is_scoped s a U) (is_scoped s b U && is_scoped s rest V) p.1 in
+      let r = and_parts (is_scoped s b U) (is_scoped s rest V) q.1 in
+      pick (code-shown ByNothing c s a G goes.1.left_ends U all goes.1.left f.0 q.0 (λ z n. none-given n) y) (code-shown ByNothing c s b G goes.1.right_ends U all goes.1.right g.0 r.0 (λ z n. none-given n) y)
+      (code-shown k c s rest _ H V all goes.1.rest g.1 r.1 gives y) (or_cases (term_mentions t y) (plus A (plus B (mentioned rest)) y) m)
     where
       pick : (mentioned a y ≡ true → D y ≡ false) → (mentioned b y ≡ true → D y ≡ false) → (mentioned rest y ≡ true → D y ≡ false) → (term_mentions t y ≡ true) ⊎ (plus (block_mentions own1 a) (plus (block_mentions own2 b) (mentioned rest)) y ≡ true) → D y ≡ false
       pick first second third (inl q) = (hidden-free D c (If at t own1 a own2 b rest) G H all goes).0 y q
@@ -70,9 +69,9 @@ module _ (D : Vars) where
           three (inr q) = two (or_cases (block_mentions own2 b y) (mentioned rest y) q)
   code-shown k c s (While at t own body rest) G H U all goes e scoped gives y m =
       let B = block_mentions own body in
-      let f = both (ends ByNothing body) (ends k rest) e in
-      let p = both (has_none U own) (is_scoped s body (plus U B) && is_scoped s rest (plus U B)) scoped in
-      let q = both (is_scoped s body (plus U B)) (is_scoped s rest (plus U B)) p.1 in
+      let f = and_parts (ends ByNothing body) (ends k rest) e in
+      let p = and_parts (has_none U own) (is_scoped s body (plus U B) && is_scoped s rest (plus U B)) scoped in
+      let q = and_parts (is_scoped s body (plus U B)) (is_scoped s rest (plus U B)) p.1 in
       pick (code-shown ByNothing c s body goes.0 goes.1.holds.ends (plus U B) all goes.1.holds.body f.0 q.0 (λ z n. none-given n) y) (code-shown k c s rest goes.0 H (plus U B) all goes.2 f.1 q.1 gives y)
       (or_cases (term_mentions t y) (plus B (mentioned rest) y) m)
     where
@@ -87,13 +86,13 @@ module _ (D : Vars) where
       let A = block_mentions own1 a in
       let B = block_mentions own2 b in
       let V = plus U (plus A B) in
-      let f = both (ends ByNothing a) (ends ByNothing b && ends k rest) e in
-      let g = both (ends ByNothing b) (ends k rest) f.1 in
-      let p = both (has_none U own1 && has_none U own2) (is_scoped s a U && (is_scoped s b U && is_scoped s rest V)) scoped in
-      let q = both (is_scoped s a U) (is_scoped s b U && is_scoped s rest V) p.1 in
-      let r = both (is_scoped s b U) (is_scoped s rest V) q.1 in
-      pick (code-shown ByNothing c s a G goes.1 U all goes.3 f.0 q.0 (λ z n. none-given n) y) (code-shown ByNothing c s b G goes.2 U all goes.4 g.0 r.0 (λ z n. none-given n) y)
-      (code-shown k c s rest _ H V all goes.5 g.1 r.1 gives y) (or_cases (A y) (plus B (mentioned rest) y) m)
+      let f = and_parts (ends ByNothing a) (ends ByNothing b && ends k rest) e in
+      let g = and_parts (ends ByNothing b) (ends k rest) f.1 in
+      let p = and_parts (has_none U own1 && has_none U own2) (is_scoped s a U && (is_scoped s b U && is_scoped s rest V)) scoped in
+      let q = and_parts (is_scoped s a U) (is_scoped s b U && is_scoped s rest V) p.1 in
+      let r = and_parts (is_scoped s b U) (is_scoped s rest V) q.1 in
+      pick (code-shown ByNothing c s a G goes.1.left_ends U all goes.1.left f.0 q.0 (λ z n. none-given n) y) (code-shown ByNothing c s b G goes.1.right_ends U all goes.1.right g.0 r.0 (λ z n. none-given n) y)
+      (code-shown k c s rest _ H V all goes.1.rest g.1 r.1 gives y) (or_cases (A y) (plus B (mentioned rest) y) m)
     where
       pick : (mentioned a y ≡ true → D y ≡ false) → (mentioned b y ≡ true → D y ≡ false) → (mentioned rest y ≡ true → D y ≡ false) → (block_mentions own1 a y ≡ true) ⊎ (plus (block_mentions own2 b) (mentioned rest) y ≡ true) → D y ≡ false
       pick first second third (inl q) = first (unblocked own1 a y q)
@@ -106,12 +105,12 @@ module _ (D : Vars) where
       let B = block_mentions own body in
       let W = plus U (those hides) in
       let V = plus (just x) (plus U B) in
-      let f = both (ends ByGive body) (ends k rest) e in
-      let p = both (given body x && (has_none W own && hides_tied s (plus U B) hides)) (is_scoped s body W && is_scoped s rest V) scoped in
-      let q = both (is_scoped s body W) (is_scoped s rest V) p.1 in
-      let gift = (both (given body x) (has_none W own && hides_tied s (plus U B) hides) p.0).0 in
+      let f = and_parts (ends ByGive body) (ends k rest) e in
+      let p = and_parts (given body x && (has_none W own && hides_tied s (plus U B) hides)) (is_scoped s body W && is_scoped s rest V) scoped in
+      let q = and_parts (is_scoped s body W) (is_scoped s rest V) p.1 in
+      let gift = (and_parts (given body x) (has_none W own && hides_tied s (plus U B) hides) p.0).0 in
       let target = out D c x all (applies-none c (RecoverHead x) G goes.0 Hidden) in
-      pick target (code-shown ByGive (hiding hides c) s body G goes.1 W (λ z n. any-right z hides c.hidden (all z n)) goes.2 f.0 q.0 (λ z n g. just-none D z x target (given-one body x z gift g)) y) (code-shown k c s rest _ H V all goes.3 f.1 q.1 gives y)
+      pick target (code-shown ByGive (hiding hides c) s body G goes.1.ends W (λ z n. any-right z hides c.hidden (all z n)) goes.1.body f.0 q.0 (λ z n g. just-none D z x target (given-one body x z gift g)) y) (code-shown k c s rest _ H V all goes.1.rest f.1 q.1 gives y)
       (or_cases (just x y) (plus B (mentioned rest) y) m)
     where
       pick : D x ≡ false → (mentioned body y ≡ true → D y ≡ false) → (mentioned rest y ≡ true → D y ≡ false) → (just x y ≡ true) ⊎ (plus (block_mentions own body) (mentioned rest) y ≡ true) → D y ≡ false
@@ -128,14 +127,14 @@ blocks-end k p own1 a own2 d rest st e = go k (top st e).0 (top st e).1
   where
     top : (st : List (Frame Held)) → stack_ends k (Par p own1 a own2 d rest) st ≡ true → (j : Ending) × (ends j (Par p own1 a own2 d rest) ≡ true)
     top [] e = (k, e)
-    top (OpenBlock own low ∷ st) e = (ByNothing, (both (ends ByNothing (Par p own1 a own2 d rest)) (stack_ends k low st) e).0)
-    top (OpenRecover own hides saved low ∷ st) e = (ByGive, (both (ends ByGive (Par p own1 a own2 d rest)) (stack_ends k low st) e).0)
-    top (OpenCall tie into y saved lent caller low ∷ st) e = (ByReturn, (both (ends ByReturn (Par p own1 a own2 d rest)) (stack_ends k low st) e).0)
+    top (OpenBlock own low ∷ st) e = (ByNothing, (and_parts (ends ByNothing (Par p own1 a own2 d rest)) (stack_ends k low st) e).0)
+    top (OpenRecover own hides saved low ∷ st) e = (ByGive, (and_parts (ends ByGive (Par p own1 a own2 d rest)) (stack_ends k low st) e).0)
+    top (OpenCall tie into y saved lent caller low ∷ st) e = (ByReturn, (and_parts (ends ByReturn (Par p own1 a own2 d rest)) (stack_ends k low st) e).0)
 
     go : (k j : Ending) → ends j (Par p own1 a own2 d rest) ≡ true → (ends ByNothing a ≡ true) × (ends ByNothing d ≡ true)
     go k j e =
-        let f = both (ends ByNothing a) (ends ByNothing d && ends j rest) e in
-        (f.0, (both (ends ByNothing d) (ends j rest) f.1).0)
+        let f = and_parts (ends ByNothing a) (ends ByNothing d && ends j rest) e in
+        (f.0, (and_parts (ends ByNothing d) (ends j rest) f.1).0)
 
 -- so no hidden variable stands in one
 pub blocks-aside : (u : UnitCode) (k : Ending) (below : List ℕ) (m : ℕ) (p : Span) (own1 : List ℕ) (a : Code) (own2 : List ℕ) (d rest : Code) (st : List (Frame Held)) (G H U : Vars) → RestGoes u below m (Par p own1 a own2 d rest) st G H → stack_ends k (Par p own1 a own2 d rest) st ≡ true
@@ -145,12 +144,12 @@ blocks-aside u k below m p own1 a own2 d rest st G H U goes e right y hidden =
     let f = blocks-end k p own1 a own2 d rest st e in
     let c = context_of u m in
     let V = plus U (plus (block_mentions own1 a) (block_mentions own2 d)) in
-    let s = (both (calls_right c (Par p own1 a own2 d rest)) (is_scoped c (Par p own1 a own2 d rest) U) (top-right u m (Par p own1 a own2 d rest) st U right)).1 in
-    let q = both (has_none U own1 && has_none U own2) (is_scoped c a U && (is_scoped c d U && is_scoped c rest V)) s in
-    let r = both (is_scoped c a U) (is_scoped c d U && is_scoped c rest V) q.1 in
-    let t = both (is_scoped c d U) (is_scoped c rest V) r.1 in (
-      absent own1 a (code-shown D ByNothing (context_above u below m st) c a G g.1.1 U (covered u below m st) g.1.3 f.0 r.0 (λ z n. none-given n) y),
-      absent own2 d (code-shown D ByNothing (context_above u below m st) c d G g.1.2 U (covered u below m st) g.1.4 f.1 t.0 (λ z n. none-given n) y),
+    let s = (and_parts (calls_right c (Par p own1 a own2 d rest)) (is_scoped c (Par p own1 a own2 d rest) U) (top-right u m (Par p own1 a own2 d rest) st U right)).1 in
+    let q = and_parts (has_none U own1 && has_none U own2) (is_scoped c a U && (is_scoped c d U && is_scoped c rest V)) s in
+    let r = and_parts (is_scoped c a U) (is_scoped c d U && is_scoped c rest V) q.1 in
+    let t = and_parts (is_scoped c d U) (is_scoped c rest V) r.1 in (
+      absent own1 a (code-shown D ByNothing (context_above u below m st) c a G g.1.1.left_ends U (covered u below m st) g.1.1.left f.0 r.0 (λ z n. none-given n) y),
+      absent own2 d (code-shown D ByNothing (context_above u below m st) c d G g.1.1.right_ends U (covered u below m st) g.1.1.right f.1 t.0 (λ z n. none-given n) y),
     )
   where
     D : Vars

@@ -1,6 +1,7 @@
 -- What holds at the node of an event, of the labels and the heap after it, holds of the whole tree.
 use Rattle.std.proofs.Common.{◌≡◌, ℕ, true, Option, Some, None, List, [], refl, sym, ap, subst, ◌∙◌, inl, inr}
 use Rattle.std.specs.Prelude.{◌⊎◌, ◌&&◌}
+use Rattle.std.proofs.lemmas.Bool.{and_parts}
 use Rattle.perm_tree.specs.Code.{UnitCode}
 use Rattle.perm_tree.specs.Vars.{Vars}
 use Rattle.perm_meaning.specs.Names.{Name, Side, OnLeft, OnRight}
@@ -10,7 +11,7 @@ use Rattle.perm_meaning.specs.NamedHeap as named
 use Rattle.perm_meaning.specs.NamedHeap.{Held, Heap, Op, Branch, Task, State, find, memory}
 use Rattle.perm_meaning.specs.Steps.{Answer, Found, Refused, Missing, within, answered, asked}
 use Rattle.perm_meaning.proofs.Leads.{some_inj, none_some}
-use Rattle.perm_meaning.proofs.SameName.{both, together}
+use Rattle.perm_meaning.proofs.SameName.{together}
 use Rattle.perm_core.specs.Core.{core, look, step}
 use Rattle.perm_core.specs.Endings.{Ending, ByReturn, ByNothing}
 use Rattle.perm_core.specs.Regions.{Zone, Base, Under, Labels, top_zone, left_zone, right_zone}
@@ -94,8 +95,8 @@ module _ (u : UnitCode) (limit : ℕ) (labels : Labels) (heap : Heap) where
       let side = left-node u labels heap k below at z b p l r H node in
       let is = lifted o v turn w l ByNothing (hidden_above below b.stack) (λ w. at (GoL w)) start side.0 side.1 e in
       let new = next_at (λ w. at (GoL w)) start w l in
-      let x = both (branch_fits u labels heap.objects (at Here) z b) (tree_fits u labels heap.objects (λ w. at (GoL w)) start l && tree_fits u labels heap.objects (λ w. at (GoR w)) beside r) node.is.variables in
-      let y = both (tree_fits u labels heap.objects (λ w. at (GoL w)) start l) (tree_fits u labels heap.objects (λ w. at (GoR w)) beside r) x.1 in
+      let x = and_parts (branch_fits u labels heap.objects (at Here) z b) (tree_fits u labels heap.objects (λ w. at (GoL w)) start l && tree_fits u labels heap.objects (λ w. at (GoR w)) beside r) node.is.variables in
+      let y = and_parts (tree_fits u labels heap.objects (λ w. at (GoL w)) start l) (tree_fits u labels heap.objects (λ w. at (GoR w)) beside r) x.1 in
       record {
         fits = together (branch_fits u new (left_by o) (at Here) z b) (tree_fits u new (left_by o) (λ w. at (GoL w)) start (fill (core u) w l v) && tree_fits u new (left_by o) (λ w. at (GoR w)) beside r)
             (branch-stays u labels new heap.objects (left_by o) OnLeft at z b node.nodes node.above is.around x.0)
@@ -110,8 +111,8 @@ module _ (u : UnitCode) (limit : ℕ) (labels : Labels) (heap : Heap) where
       let side = right-node u labels heap k below at z b p l r H node in
       let is = lifted o v turn w r ByNothing (hidden_above below b.stack) (λ w. at (GoR w)) start side.0 side.1 e in
       let new = next_at (λ w. at (GoR w)) start w r in
-      let x = both (branch_fits u labels heap.objects (at Here) z b) (tree_fits u labels heap.objects (λ w. at (GoL w)) beside l && tree_fits u labels heap.objects (λ w. at (GoR w)) start r) node.is.variables in
-      let y = both (tree_fits u labels heap.objects (λ w. at (GoL w)) beside l) (tree_fits u labels heap.objects (λ w. at (GoR w)) start r) x.1 in
+      let x = and_parts (branch_fits u labels heap.objects (at Here) z b) (tree_fits u labels heap.objects (λ w. at (GoL w)) beside l && tree_fits u labels heap.objects (λ w. at (GoR w)) start r) node.is.variables in
+      let y = and_parts (tree_fits u labels heap.objects (λ w. at (GoL w)) beside l) (tree_fits u labels heap.objects (λ w. at (GoR w)) start r) x.1 in
       record {
         fits = together (branch_fits u new (left_by o) (at Here) z b) (tree_fits u new (left_by o) (λ w. at (GoL w)) beside l && tree_fits u new (left_by o) (λ w. at (GoR w)) start (fill (core u) w r v))
             (branch-stays u labels new heap.objects (left_by o) OnRight at z b node.nodes node.above is.around x.0)
