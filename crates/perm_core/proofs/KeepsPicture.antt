@@ -25,6 +25,7 @@ pub mod ItemStores
 pub mod ObjectTurns
 pub mod LeafChanges
 pub mod ReturnTurns
+pub mod CallArguments
 pub mod Relabellings
 pub mod CarriedValues
 pub mod CallEnds

@@ -61,16 +61,16 @@ fits-of-type h test (Ref p s) (Number n) e = absurd (let no : ⊥ = cc e in no)
 fits-of-type h test (Ref p s) (Truth b) e = absurd (let no : ⊥ = cc e in no)
 
 -- `long` or `bool`
-abbrev IsPlain : Ty → Type 0
+abbrev pub IsPlain : Ty → Type 0
 IsPlain Long = Unit {0}
 IsPlain Boolean = Unit {0}
 IsPlain (Ref p s) = ⊥
 
-unary-plain : (op : UnaryOp) → IsPlain (unary_type op)
+pub unary-plain : (op : UnaryOp) → IsPlain (unary_type op)
 unary-plain Negative = tt
 unary-plain Not = tt
 
-binary-plain : (op : BinaryOp) → IsPlain (binary_type op)
+pub binary-plain : (op : BinaryOp) → IsPlain (binary_type op)
 binary-plain Mul = tt
 binary-plain Div = tt
 binary-plain Rem = tt
@@ -86,7 +86,7 @@ binary-plain And = tt
 binary-plain Or = tt
 
 -- a plain value comes into what is of its kind
-plain-comes : (h : Objects Name) (test : Perm → Name → Bool) (t u : Ty) (v : Value Name) → IsPlain t → IsOfType t v → differ t u ≡ false → value_fits h test u v ≡ true
+pub plain-comes : (h : Objects Name) (test : Perm → Name → Bool) (t u : Ty) (v : Value Name) → IsPlain t → IsOfType t v → differ t u ≡ false → value_fits h test u v ≡ true
 plain-comes h test Long Long (Number n) p is e = refl
 plain-comes h test Boolean Boolean (Truth b) p is e = refl
 plain-comes h test Long Long (Truth b) p is e = absurd is
@@ -101,7 +101,7 @@ plain-comes h test Boolean Long v p is e = absurd (let no : ⊥ = cc e in no)
 plain-comes h test Boolean (Ref q s) v p is e = absurd (let no : ⊥ = cc e in no)
 plain-comes h test (Ref q s) u v p is e = absurd p
 
-null-comes : (h : Objects Name) (test : Perm → Name → Bool) (u : Ty) (v : Value Name) → IsOfSort NullSort v → isnt_value_of NullSort u ≡ false → value_fits h test u v ≡ true
+pub null-comes : (h : Objects Name) (test : Perm → Name → Bool) (u : Ty) (v : Value Name) → IsOfSort NullSort v → isnt_value_of NullSort u ≡ false → value_fits h test u v ≡ true
 null-comes h test (Ref p s) Null is e = refl
 null-comes h test Long v is e = absurd (let no : ⊥ = cc e in no)
 null-comes h test Boolean v is e = absurd (let no : ⊥ = cc e in no)
