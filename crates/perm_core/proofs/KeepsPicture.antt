@@ -26,6 +26,8 @@ pub mod ObjectTurns
 pub mod LeafChanges
 pub mod ReturnTurns
 pub mod CallArguments
+pub mod CallBeginnings
+pub mod RightCalls
 pub mod Relabellings
 pub mod CarriedValues
 pub mod CallEnds
