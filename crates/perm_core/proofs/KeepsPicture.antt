@@ -28,6 +28,7 @@ pub mod ReturnTurns
 pub mod CallArguments
 pub mod CallBeginnings
 pub mod RightCalls
+pub mod CallTurns
 pub mod Relabellings
 pub mod CarriedValues
 pub mod CallEnds
