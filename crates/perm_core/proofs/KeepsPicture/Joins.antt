@@ -288,7 +288,7 @@ module _ (u : UnitCode) (labels : Labels) (h : Objects Name) (w l r : Way) (zp :
   own-right : ρ (OwnOf (right_zone mode r zp)) ≡ OwnOf zp
   own-right = ap (λ q. moved joins q) (handed-alone (OwnOf (right_zone mode r zp)) (λ x. refl) (λ x. refl)) ∙ right-zone mode
 
-  abbrev after : Labels
+  abbrev pub after : Labels
   after n = ρ (labels n)
 
   -- a value comes back from a side
