@@ -1,3 +1,4 @@
 -- Worked examples of the picture.
 mod RefutedPictures
 mod HiddenRuns
+mod ForeignMethods
