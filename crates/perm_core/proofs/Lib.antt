@@ -26,6 +26,7 @@ pub mod Unstuck
 pub mod WholeCode
 pub mod WholeTypes
 pub mod WholeUnits
+pub mod CalledClasses
 mod WordRuns
 pub mod WordsShown
 mod ZonesApart

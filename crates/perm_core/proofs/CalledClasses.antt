@@ -1,0 +1,37 @@
+-- In the code of a resolved program the method that a call finds in the class of its receiver's type is of that class.
+use Rattle.std.proofs.Common.{◌≡◌, ℕ, Bool, true, false, Some, List, [], ◌∷◌, refl, sym, ap, ◌∙◌}
+use Rattle.std.specs.Prelude.{cond, find, nat_eq, slice_get}
+use Rattle.std.proofs.lemmas.List.Folds.{find_at}
+use Rattle.perm_tree.specs.declared.ast.Perm.{Perm}
+use Rattle.perm_tree.specs.declared.ast.Shape.TheVariants.{Class}
+use Rattle.perm_tree.specs.declared.ast.Ty.TheVariants.{Ref}
+use Rattle.perm_tree.specs.declared.unit.MethodTable.{MethodTable}
+use Rattle.perm_tree.specs.Code.{Routine}
+use Rattle.perm_tree.specs.CodeOf.{code_of}
+use Rattle.perm_tree.specs.Lookup.{method_of, is_method_if, is_method_of, method_place}
+use Rattle.perm_tree.specs.Resolves.{IsResolved}
+use Rattle.perm_tree.specs.UnitTables.{Tables}
+use Rattle.perm_tree.proofs.TableLaws.{HasTable}
+use Rattle.perm_meaning.proofs.Leads.{some_inj, none_some}
+use Rattle.perm_meaning.proofs.SameName.{both, eq_true}
+use Rattle.perm_core.proofs.WholeTypes.{IsResolved-table}
+
+-- what is found passes the test
+found-passes : {A : Type 0} (p : A → Bool) (xs : List A) (x : A) → find p xs ≡ Some x → p x ≡ true
+found-passes p [] x e = none_some e
+found-passes p (y ∷ xs) x e = go (found-passes p xs x) (p y) refl e
+  where
+    go : (find p xs ≡ Some x → p x ≡ true) → (b : Bool) → p y ≡ b → cond b (Some y) (find p xs) ≡ Some x → p x ≡ true
+    go rec true q e = ap p (sym (some_inj e)) ∙ q
+    go rec false q e = rec e
+
+pub called-class : (u : Tables) (q : Perm) (k name : ℕ) (r : Routine) → IsResolved u → slice_get (code_of u).routines (method_place u (Some (Ref q (Class k))) name) ≡ Some r → r.class ≡ k
+called-class u q k name r is here = by_table (IsResolved-table u (method_place u (Some (Ref q (Class k))) name) r is here)
+  where
+    test : MethodTable → Bool
+    test = is_method_of u.program k (λ n. nat_eq n name)
+
+    by_table : HasTable u u.tables (method_place u (Some (Ref q (Class k))) name) r → r.class ≡ k
+    by_table (t, d, there, table, same) =
+        let passes : test t ≡ true = found-passes test u.tables t (find_at test u.tables ∙ there) in
+        ap (λ (x : Routine). x.class) (sym same) ∙ eq_true t.class k (both (nat_eq t.class k) (is_method_if (λ n. nat_eq n name) (method_of u.program t)) passes).0
