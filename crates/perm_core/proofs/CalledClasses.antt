@@ -1,10 +1,12 @@
 -- In the code of a resolved program the method that a call finds in the class of its receiver's type is of that class.
-use Rattle.std.proofs.Common.{◌≡◌, ℕ, Bool, true, false, Some, List, [], ◌∷◌, refl, sym, ap, ◌∙◌}
+use Rattle.std.proofs.Common.{◌≡◌, ℕ, Bool, true, false, Option, Some, None, List, [], ◌∷◌, refl, sym, ap, ◌∙◌}
 use Rattle.std.specs.Prelude.{cond, find, nat_eq, slice_get}
 use Rattle.std.proofs.lemmas.List.Folds.{find_at}
+use Rattle.std.proofs.lemmas.Bool.{and_parts}
 use Rattle.perm_tree.specs.declared.ast.Perm.{Perm}
-use Rattle.perm_tree.specs.declared.ast.Shape.TheVariants.{Class}
-use Rattle.perm_tree.specs.declared.ast.Ty.TheVariants.{Ref}
+use Rattle.perm_tree.specs.declared.ast.Shape.TheVariants.{Class, Array}
+use Rattle.perm_tree.specs.declared.ast.Ty.{Ty}
+use Rattle.perm_tree.specs.declared.ast.Ty.TheVariants.{Long, Bool as Boolean, Ref}
 use Rattle.perm_tree.specs.declared.unit.MethodTable.{MethodTable}
 use Rattle.perm_tree.specs.Code.{Routine}
 use Rattle.perm_tree.specs.CodeOf.{code_of}
@@ -13,7 +15,8 @@ use Rattle.perm_tree.specs.Resolves.{IsResolved}
 use Rattle.perm_tree.specs.UnitTables.{Tables}
 use Rattle.perm_tree.proofs.TableLaws.{HasTable}
 use Rattle.perm_meaning.proofs.Leads.{some_inj, none_some}
-use Rattle.perm_meaning.proofs.SameName.{both, eq_true}
+use Rattle.perm_meaning.proofs.SameName.{eq_true, eq_itself}
+use Rattle.perm_core.specs.Marked.{is_called_on}
 use Rattle.perm_core.proofs.WholeTypes.{IsResolved-table}
 
 -- what is found passes the test
@@ -34,4 +37,16 @@ called-class u q k name r is here = by_table (IsResolved-table u (method_place u
     by_table : HasTable u u.tables (method_place u (Some (Ref q (Class k))) name) r → r.class ≡ k
     by_table (t, d, there, table, same) =
         let passes : test t ≡ true = found-passes test u.tables t (find_at test u.tables ∙ there) in
-        ap (λ (x : Routine). x.class) (sym same) ∙ eq_true t.class k (both (nat_eq t.class k) (is_method_if (λ n. nat_eq n name) (method_of u.program t)) passes).0
+        ap (λ (x : Routine). x.class) (sym same) ∙ eq_true t.class k (and_parts (nat_eq t.class k) (is_method_if (λ n. nat_eq n name) (method_of u.program t)) passes).0
+
+-- so the called method is one of the receiver's class
+pub called-on : (u : Tables) (t : Option Ty) (name : ℕ) → IsResolved u → is_called_on t (slice_get (code_of u).routines (method_place u t name)) ≡ true
+called-on u (Some (Ref q (Class k))) name is = by_routine (slice_get (code_of u).routines (method_place u (Some (Ref q (Class k))) name)) refl
+  where
+    by_routine : (r : Option Routine) → slice_get (code_of u).routines (method_place u (Some (Ref q (Class k))) name) ≡ r → is_called_on (Some (Ref q (Class k))) r ≡ true
+    by_routine None e = refl
+    by_routine (Some r) e = ap (nat_eq k) (called-class u q k name r is e) ∙ eq_itself k
+called-on u (Some (Ref q Array)) name is = refl
+called-on u (Some Long) name is = refl
+called-on u (Some Boolean) name is = refl
+called-on u None name is = refl

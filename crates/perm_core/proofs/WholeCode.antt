@@ -16,7 +16,7 @@ use Rattle.perm_tree.specs.declared.unit.MethodTable.{MethodTable}
 use Rattle.perm_tree.specs.declared.unit.VarInfo.{VarInfo}
 use Rattle.perm_tree.specs.Code.{Instruction, LoadField, LoadLength, Tie, Shares, Raises, Lends, Code, End, Give, Return, Do, Routine}
 use Rattle.perm_tree.specs.CodeOf.{Setting, setting, argument, var_at, ty_at, field_at, call, read, sequence, assignment, kind_code, codes_of, routine, code_of}
-use Rattle.perm_tree.specs.Lookup.{ty_if, var_ty, is_array}
+use Rattle.perm_tree.specs.Lookup.{ty_if, var_ty, is_array, method_place}
 use Rattle.perm_tree.specs.Resolves.{IsResolved}
 use Rattle.perm_tree.specs.Scopes.{else_stmts}
 use Rattle.perm_tree.specs.Spelling.{length_word, is_word}
@@ -26,7 +26,8 @@ use Rattle.perm_tree.proofs.TableLaws.{HasTable}
 use Rattle.perm_rules.specs.Goes.{context}
 use Rattle.perm_rules.specs.Parts.{Context, type_of}
 use Rattle.perm_core.specs.Endings.{Ending, ByNothing, ByGive, ByReturn, ends}
-use Rattle.perm_core.specs.Marked.{same_tie, call_right, calls_right}
+use Rattle.perm_core.specs.Marked.{same_tie, is_called_on, call_right, calls_right}
+use Rattle.perm_core.proofs.CalledClasses.{called-on}
 use Rattle.perm_core.proofs.WholeTypes.{entries_from-each, IsResolved-table}
 
 -- ---------- calls ----------
@@ -44,12 +45,15 @@ abbrev Keeps : Context → (Code → Code) → Type 0
 Keeps c f = (e : Ending) (rest : Code) → Fits c e rest → Fits c e (f rest)
 
 -- the types of the variables are those that the setting has
-module _ (k : Setting) (c : Context) (same : (y : ℕ) → type_of c y ≡ var_ty k.vars y) where
+module _ (k : Setting) (c : Context) (same : (y : ℕ) → type_of c y ≡ var_ty k.vars y) (methods : c.routines ≡ (code_of k.tables).routines) (is : IsResolved k.tables) where
   call-right : (into : Option ℕ) (d : Call) → call_right c (call k into d) ≡ true
   call-right into d =
       let args = map (argument k) d.args in
       let own : Tie = tie_of (ty_at k d.on) d.consumed (list_all (is_harmless (var_ty k.vars)) args) in
-      (λ j. same_tie own (tie_of (same (var_at k d.on) j) d.consumed (list_all (is_harmless (λ y. same y j)) args))) ∙ same_tie-refl own
+      let tied = (λ j. same_tie own (tie_of (same (var_at k d.on) j) d.consumed (list_all (is_harmless (λ y. same y j)) args))) ∙ same_tie-refl own in
+      let place : ℕ = method_place k.tables (ty_at k d.on) d.«method».name in
+      let called = (λ j. is_called_on (same (var_at k d.on) j) (slice_get (methods j) place)) ∙ called-on k.tables (ty_at k d.on) d.«method».name is in
+      λ j. tied j && called j
 
   -- what is read from a field or an array is no call
   read-right : (x : ℕ) (y f : Ident) → call_right c (read k x y f) ≡ true
@@ -130,19 +134,19 @@ type-same vars y = slice_get-map (λ (v : VarInfo). v.ty) vars y ∙ there (slic
     there None = refl
     there (Some v) = refl
 
-routine-fits : (u : Tables) (t : MethodTable) (d : Method) → Fits (context (code_of u) (routine u t d)) ByReturn (routine u t d).code
-routine-fits u t d =
+routine-fits : (u : Tables) (t : MethodTable) (d : Method) → IsResolved u → Fits (context (code_of u) (routine u t d)) ByReturn (routine u t d).code
+routine-fits u t d is =
     let k = setting u t.vars in
     let c = context (code_of u) (routine u t d) in
     let same = type-same t.vars in
-    sequence-fits k c same (codes_of k) (codes_of-keep k c same) ByReturn d.body.stmts (Return d.span (argument k d.back)) (refl, refl)
+    sequence-fits k c same refl is (codes_of k) (codes_of-keep k c same refl is) ByReturn d.body.stmts (Return d.span (argument k d.back)) (refl, refl)
 
 -- the code of a routine of a resolved unit
 code-fits : (u : Tables) (at : ℕ) (r : Routine) → slice_get (code_of u).routines at ≡ Some r → IsResolved u → Fits (context (code_of u) r) ByReturn r.code
 code-fits u at r here is = by_table (IsResolved-table u at r is here)
   where
     by_table : HasTable u u.tables at r → Fits (context (code_of u) r) ByReturn r.code
-    by_table (t, d, there, table, same) = subst (λ (q : Routine). Fits (context (code_of u) q) ByReturn q.code) same (routine-fits u t d)
+    by_table (t, d, there, table, same) = subst (λ (q : Routine). Fits (context (code_of u) q) ByReturn q.code) same (routine-fits u t d is)
 
 -- it ends by its return
 pub IsResolved-returns : (u : Tables) (at : ℕ) (r : Routine) → slice_get (code_of u).routines at ≡ Some r → IsResolved u → ends ByReturn r.code ≡ true

@@ -2,7 +2,7 @@
 use Rattle.std.proofs.Common.{◌≡◌, ℕ, zero, suc, ◌+◌, Bool, true, false, Some, None, List, [], ◌∷◌, ◌++◌, length, refl, sym, ap, subst, ◌∙◌, arith, inl, inr}
 use Rattle.std.specs.Prelude.{◌⊎◌, ◌&&◌, not, nat_eq, cond, slice_get}
 use Rattle.std.specs.List.{list_any, list_all}
-use Rattle.std.proofs.lemmas.Bool.{or_parts, or_left, or_right}
+use Rattle.std.proofs.lemmas.Bool.{or_parts, or_left, or_right, and_parts}
 use Rattle.std.proofs.lemmas.Bool.Decides.{nat_tests}
 use Rattle.std.proofs.Math.Bool.{and-false}
 use Rattle.perm_tree.specs.declared.ast.Perm.{Perm}
@@ -28,7 +28,7 @@ use Rattle.perm_meaning.specs.Expressions.{tagged, eval, clear}
 use Rattle.perm_meaning.specs.Machine.{Way}
 use Rattle.perm_meaning.specs.NamedHeap.{Held}
 use Rattle.perm_meaning.proofs.Leads.{some_inj}
-use Rattle.perm_meaning.proofs.SameName.{both, together, eq_true, eq_itself}
+use Rattle.perm_meaning.proofs.SameName.{together, eq_true, eq_itself}
 use Rattle.perm_core.specs.Regions.{Zone, Region, OwnOf, OfVariable, Labels, same_way, same_region, is_absent, var_may_lead}
 use Rattle.perm_core.specs.Picture.{value_fits, valued}
 use Rattle.perm_core.specs.NextPicture.{Moves, Renamings, moved, goal_of, consumed_moves, arguments_moves}
@@ -258,12 +258,12 @@ module _ (u : UnitCode) (h : Objects Name) (c : Context) (w : Way) (k : ℕ) (zc
 
   next-alive : (vs us : List Held) (a : Argument) (v : Held) (G : Vars) → Gives_one vs a v us → IsWithin G (valued vs) → IsWithin (after_argument a G) (valued us)
   next-alive vs us a v G one less y e =
-      let q = both (G y) (not (argument_consumes a y)) e in
+      let q = and_parts (G y) (not (argument_consumes a y)) e in
       (one-has vs us a v one).1 y (together (valued vs y) (not (argument_consumes a y)) (less y q.0) q.1)
 
   one-may : (a : Argument) (rest : List Argument) → MayAllCome (a ∷ rest) → MayCome a × MayAllCome rest
   one-may a rest (inl e) = (inl e, inl e)
-  one-may a rest (inr e) = let q = both (is_harmless (type_of c) a) (list_all (is_harmless (type_of c)) rest) e in (inr q.0, inr q.1)
+  one-may a rest (inr e) = let q = and_parts (is_harmless (type_of c) a) (list_all (is_harmless (type_of c)) rest) e in (inr q.0, inr q.1)
 
   -- arguments that are allowed beside parameters of these types come to them
   pub arguments-come : (args : List Argument) (labels : Labels) (x : ℕ) (ts : List Ty) (vs found ws : List Held) (G : Vars) → Evaluates args vs found ws → AllFit u labels h zc w k c.vars vs → IsWithin G (valued vs) → arguments_gone args G ≡ false

@@ -2,7 +2,7 @@
 use Rattle.std.proofs.Common.{◌≡◌, ℕ, suc, ◌+◌, ◌-◌, ◌<◌, Bool, true, false, Option, Some, None, List, [], ◌∷◌, ◌++◌, length, replicate, refl, sym, ap, subst, ◌∙◌, arith, le_refl, inl, inr}
 use Rattle.std.specs.Prelude.{◌⊎◌, ◌&&◌, ◌||◌, not, nat_eq, slice_get}
 use Rattle.std.specs.List.{list_any, list_all}
-use Rattle.std.proofs.lemmas.Bool.{or_cases, or_left, or_right, or_parts}
+use Rattle.std.proofs.lemmas.Bool.{or_cases, or_left, or_right, or_parts, and_parts}
 use Rattle.std.proofs.lemmas.Bool.Decides.{nat_tests}
 use Rattle.std.proofs.lemmas.List.{length-append}
 use Rattle.std.proofs.Math.Bool.{and-false}
@@ -30,7 +30,7 @@ use Rattle.perm_meaning.specs.Effects.{first_vars}
 use Rattle.perm_meaning.specs.Custody.{Moves as Moving, while_called, lent_by}
 use Rattle.perm_meaning.specs.Machine.{Frame, OpenCall, Way, Here, On, done}
 use Rattle.perm_meaning.specs.NamedHeap.{Held, Own, Branch}
-use Rattle.perm_meaning.proofs.SameName.{both, together, eq_itself}
+use Rattle.perm_meaning.proofs.SameName.{together, eq_itself}
 use Rattle.perm_core.specs.Core.{core}
 use Rattle.perm_core.specs.Marked.{call_right, calls_right}
 use Rattle.perm_core.specs.Regions.{Zone, Base, OwnOf, OfVariable, OfField, Labels, same_way, same_region, calls, zones, top_zone}
@@ -142,7 +142,6 @@ module _ (u : UnitCode) (labels : Labels) (h : Objects Name) (c : Context) (w : 
 -- ---------- the turn ----------
 module _ (u : UnitCode) (whole : IsWhole u) (labels : Labels) (h : Objects Name) (at : Way → Way) (z : Zone) (low : StartsLow (at Here) z) (below : List ℕ) (b : Branch) (span : Span) (into : Option ℕ) (tie : Tie) (consumed : Bool) (y m : ℕ) (args : List Argument) (rest : Code) (st : List (Frame Held)) (H : Vars) (r : Routine) (this : Held) (found vs : List Held)
     (begins : Begins u b.own tie consumed y m args r this found vs)
-    (class : (p : Perm) (k : ℕ) → type_of (context_of u b.own.routine) y ≡ Some (Ref p (Class k)) → k ≡ r.class)
     (goes : RestGoes u below b.own.routine (Do span (Invoke into tie consumed y m args) rest) st (valued b.own.vars) H)
     (vars : variables_fit u labels h (top_zone (at Here) z st) (at Here) (calls st) 0 (context_of u b.own.routine).vars b.own.vars ≡ true)
     (stack : stack_fits u labels h (at Here) z b.own.routine st ≡ true) (hid : stack_hidden below (Do span (Invoke into tie consumed y m args) rest) st ≡ true)
@@ -171,15 +170,15 @@ module _ (u : UnitCode) (whole : IsWhole u) (labels : Labels) (h : Objects Name)
 
   tied : call_right c (Invoke into tie consumed y m args) ≡ true
   tied =
-      (both (call_right c (Invoke into tie consumed y m args)) (calls_right c rest)
-      (both (calls_right c (Do span (Invoke into tie consumed y m args) rest)) (is_scoped c (Do span (Invoke into tie consumed y m args) rest) (valued b.own.vars))
+      (and_parts (call_right c (Invoke into tie consumed y m args)) (calls_right c rest)
+      (and_parts (calls_right c (Do span (Invoke into tie consumed y m args) rest)) (is_scoped c (Do span (Invoke into tie consumed y m args) rest) (valued b.own.vars))
       (top-right u b.own.routine (Do span (Invoke into tie consumed y m args) rest) st (valued b.own.vars) right)).0).0
 
   allowed : IsAllowed (context_above u below b.own.routine st) (Simple (Invoke into tie consumed y m args)) (valued b.own.vars)
   allowed = (top-goes u below b.own.routine (Do span (Invoke into tie consumed y m args) rest) st (valued b.own.vars) H goes).1.0
 
   right_call : (p : Perm) × RightCall c into tie consumed y args r p (valued b.own.vars)
-  right_call = right-call u below b.own.routine st into tie consumed y m args r (valued b.own.vars) begins.here allowed tied class
+  right_call = right-call u below b.own.routine st into tie consumed y m args r (valued b.own.vars) begins.here allowed tied
 
   starts : Starts u labels h c (at Here) z st b.own fit tie consumed y args r this found vs
   starts = call-starts u labels h c (at Here) z st b.own fit into tie consumed y args r right_call.0 (valued b.own.vars) this (Reference begins.p begins.n) found vs right_call.1 (λ x e. e) begins.receiver begins.receives

@@ -1,6 +1,7 @@
 -- A par ends: the parent that goes on when both sides are over fits, and so do the objects, whether the sides went well or failed.
 use Rattle.std.proofs.Common.{◌≡◌, ℕ, Bool, true, false, Option, Some, None, List, [], ◌∷◌, ◌++◌, refl, sym, ap, subst, ◌∙◌}
 use Rattle.std.specs.Prelude.{ℤ, ◌&&◌, ◌||◌, not, nat_eq}
+use Rattle.std.proofs.lemmas.Bool.{and_parts}
 use Rattle.perm_tree.specs.Code.{Shares, Raises, Lends, UnitCode}
 use Rattle.perm_rules.specs.declared.ParMode.{ParMode}
 use Rattle.perm_rules.specs.Parts.{Context}
@@ -10,7 +11,7 @@ use Rattle.perm_meaning.specs.Custody.{merged, back_l, back_r}
 use Rattle.perm_meaning.specs.Machine.{Frame, OpenBlock, OpenRecover, OpenCall, Close, Blocks, Leaf, Fork, Way, Here, GoL, GoR, Final, Fine, GaveBack, Failed, final, resumed, join_of}
 use Rattle.perm_meaning.specs.NamedHeap.{Held, Branch, Task}
 use Rattle.perm_meaning.proofs.Leads.{none_some}
-use Rattle.perm_meaning.proofs.SameName.{both, eq_true}
+use Rattle.perm_meaning.proofs.SameName.{eq_true}
 use Rattle.perm_core.specs.Core.{core}
 use Rattle.perm_core.specs.Endings.{Ending, ByNothing, is_open, stack_ends, tree_ends}
 use Rattle.perm_core.specs.Regions.{Zone, Region, Labels, same_way, calls, top_zone, left_zone, right_zone}
@@ -41,7 +42,7 @@ module _ (u : UnitCode) (labels : Labels) (h : Objects Name) where
   open-fits w z b none fit =
       let held : Bool = variables_fit u labels h (top_zone w z b.stack) w (calls b.stack) 0 (context_of u b.own.routine).vars b.own.vars in
       let stack : Bool = stack_fits u labels h w z b.own.routine b.stack in
-      both held stack (sym (ap (λ c. has_end u labels h c || (held && stack)) none) ∙ fit)
+      and_parts held stack (sym (ap (λ c. has_end u labels h c || (held && stack)) none) ∙ fit)
 
   -- the variables of a side that went well fit where it began
   fine-fits : (at : Way → Way) (z : Zone) (m : ℕ) (t : Task) (vs : List Held) (n : ℕ) (p : List ℤ) → final t ≡ Some (Fine vs n p) → tree_fits u labels h at z t ≡ true → stands_in m t ≡ true
@@ -110,22 +111,22 @@ module _ (u : UnitCode) (labels : Labels) (h : Objects Name) where
         right_fit = tree_fits u labels h (λ w. at (GoR w)) (right_zone mode (at (GoR Here)) top) r
 
         fits : (branch_fits u labels h (at Here) z b ≡ true) × ((left_fit && right_fit) ≡ true)
-        fits = both (branch_fits u labels h (at Here) z b) (left_fit && right_fit) fit
+        fits = and_parts (branch_fits u labels h (at Here) z b) (left_fit && right_fit) fit
 
         sides : (left_fit ≡ true) × (right_fit ≡ true)
-        sides = both left_fit right_fit fits.1
+        sides = and_parts left_fit right_fit fits.1
 
         stands : (stands_in m l ≡ true) × (stands_in m r ≡ true)
-        stands = both (stands_in m l) (stands_in m r) (both (stands_in m l && stands_in m r) (sides_stand l && sides_stand r) stand).0
+        stands = and_parts (stands_in m l) (stands_in m r) (and_parts (stands_in m l && stands_in m r) (sides_stand l && sides_stand r) stand).0
 
         ends_here : ((is_open b.close && stack_ends k b.code b.stack) ≡ true) × ((tree_ends ByNothing l && tree_ends ByNothing r) ≡ true)
-        ends_here = both (is_open b.close && stack_ends k b.code b.stack) (tree_ends ByNothing l && tree_ends ByNothing r) ends
+        ends_here = and_parts (is_open b.close && stack_ends k b.code b.stack) (tree_ends ByNothing l && tree_ends ByNothing r) ends
 
         side_ends : (tree_ends ByNothing l ≡ true) × (tree_ends ByNothing r ≡ true)
-        side_ends = both (tree_ends ByNothing l) (tree_ends ByNothing r) ends_here.1
+        side_ends = and_parts (tree_ends ByNothing l) (tree_ends ByNothing r) ends_here.1
 
         own : (variables_fit u labels h top (at Here) (calls b.stack) 0 c.vars b.own.vars ≡ true) × (stack_fits u labels h (at Here) z m b.stack ≡ true)
-        own = open-fits (at Here) z b (open-none b.close (both (is_open b.close) (stack_ends k b.code b.stack) ends_here.0).0) fits.0
+        own = open-fits (at Here) z b (open-none b.close (and_parts (is_open b.close) (stack_ends k b.code b.stack) ends_here.0).0) fits.0
 
         stack_after : stack_fits u after h (at Here) z m b.stack ≡ true
         stack_after = parts.below-fits u labels h (at Here) (at (GoL Here)) (at (GoR Here)) top (calls b.stack) c mode (back_l u m p) (back_r u m p) apart_l apart_r apart_lr apart_rl avoids_l avoids_r z m b.stack avoid_l avoid_r own.1

@@ -2,7 +2,7 @@
 use Rattle.std.proofs.Common.{◌≡◌, ℕ, Bool, true, false, Option, Some, None, List, refl, sym, ap, ◌∙◌}
 use Rattle.std.specs.Prelude.{◌&&◌, ◌||◌, not, nat_eq, slice_get}
 use Rattle.std.specs.List.{list_any, list_all}
-use Rattle.std.proofs.lemmas.Bool.{or_parts}
+use Rattle.std.proofs.lemmas.Bool.{and_parts, or_parts}
 use Rattle.perm_tree.specs.declared.ast.Perm.{Perm}
 use Rattle.perm_tree.specs.declared.ast.Perm.TheVariants.{Isolated, Immutable, Readable, Writable}
 use Rattle.perm_tree.specs.declared.ast.Shape.{Shape}
@@ -24,13 +24,13 @@ use Rattle.perm_rules.specs.Permissions.{argument_needs, arguments_weak, keeps_r
 use Rattle.perm_rules.specs.Refusals.{IsAllowed}
 use Rattle.perm_rules.specs.Shapes.{arguments_misfit, shapes_differ, taker_type, isnt_object, call_misfits}
 use Rattle.perm_rules.specs.Sorts.{argument_wrong, differ}
-use Rattle.perm_rules.proofs.PartLaws.{applies-none, known_in}
+use Rattle.perm_rules.proofs.PartLaws.{applies-none, part-known}
 use Rattle.perm_meaning.specs.Names.{Name}
 use Rattle.perm_meaning.specs.Objects.{Objects}
 use Rattle.perm_meaning.specs.Machine.{Frame}
 use Rattle.perm_meaning.specs.NamedHeap.{Held}
-use Rattle.perm_meaning.proofs.SameName.{eq_itself}
-use Rattle.perm_core.specs.Marked.{same_tie, call_right}
+use Rattle.perm_meaning.proofs.SameName.{eq_itself, eq_true}
+use Rattle.perm_core.specs.Marked.{same_tie, is_called_on, call_right}
 use Rattle.perm_core.specs.Regions.{Labels}
 use Rattle.perm_core.specs.Picture.{context_if, context_of, context_above, result_fits}
 use Rattle.perm_core.proofs.KeepsPicture.Arguments.{get-some}
@@ -109,11 +109,11 @@ routines-of : (u : UnitCode) (o : Option Routine) → (context_if u o).routines 
 routines-of u None = refl
 routines-of u (Some r) = refl
 
--- a call that is allowed and rightly tied, on a receiver of the method's class
+-- a call that is allowed and right
 pub right-call : (u : UnitCode) (below : List ℕ) (n : ℕ) (st : List (Frame Held)) (into : Option ℕ) (tie : Tie) (consumed : Bool) (y m : ℕ) (args : List Argument) (r : Routine) (G : Vars) → slice_get u.routines m ≡ Some r
     → IsAllowed (context_above u below n st) (Simple (Invoke into tie consumed y m args)) G → call_right (context_of u n) (Invoke into tie consumed y m args) ≡ true
-    → ((p : Perm) (k : ℕ) → type_of (context_of u n) y ≡ Some (Ref p (Class k)) → k ≡ r.class) → (p : Perm) × RightCall (context_of u n) into tie consumed y args r p G
-right-call u below n st into tie consumed y m args r G here allowed tied class = go type.0 type.1 wrong.0
+    → (p : Perm) × RightCall (context_of u n) into tie consumed y args r p G
+right-call u below n st into tie consumed y m args r G here allowed marked = go type.0 type.1 wrong.0
   where
     C : Context
     C = context_above u below n st
@@ -124,13 +124,19 @@ right-call u below n st into tie consumed y m args r G here allowed tied class =
     routine : slice_get c.routines m ≡ Some r
     routine = ap (λ rs. slice_get rs m) (routines-of u (slice_get u.routines n)) ∙ here
 
+    marks : (same_tie tie (tie_of (type_of c y) consumed (list_all (is_harmless (type_of c)) args)) ≡ true) × (is_called_on (type_of c y) (slice_get c.routines m) ≡ true)
+    marks = and_parts (same_tie tie (tie_of (type_of c y) consumed (list_all (is_harmless (type_of c)) args))) (is_called_on (type_of c y) (slice_get c.routines m)) marked
+
+    class : (p : Perm) (k : ℕ) → type_of c y ≡ Some (Ref p (Class k)) → k ≡ r.class
+    class p k is = eq_true k r.class (sym (λ j. is_called_on (is j) (routine j)) ∙ marks.1)
+
     second : (p q s : Bool) → q ≡ true → (p || (q || s)) ≡ true
     second true q s e = refl
     second false true s e = refl
     second false false s e = absurd (let no : ⊥ = cc e in no)
 
     type : (t : Ty) × (type_of c y ≡ Some t)
-    type = get-some c.vars y (known_in C (Simple (Invoke into tie consumed y m args)) G allowed y (second (any_in_option (nat_eq y) into) (nat_eq y y) (list_any (any_in_argument (nat_eq y)) args) (eq_itself y)))
+    type = get-some c.vars y (part-known C (Simple (Invoke into tie consumed y m args)) G allowed y (second (any_in_option (nat_eq y) into) (nat_eq y y) (list_any (any_in_argument (nat_eq y)) args) (eq_itself y)))
 
     wrong : (isnt_object c y ≡ false) × ((list_any (argument_wrong c) args || call_misfits c into args (slice_get c.routines m)) ≡ false)
     wrong = or_parts (isnt_object c y) (list_any (argument_wrong c) args || call_misfits c into args (slice_get c.routines m)) (applies-none C (Simple (Invoke into tie consumed y m args)) G allowed WrongKind)
@@ -153,7 +159,7 @@ right-call u below n st into tie consumed y m args r G here allowed tied class =
 
     taken : (x : ℕ) → into ≡ Some x → (s : Ty) × (type_of c x ≡ Some s)
     taken x q =
-        get-some c.vars x (known_in C (Simple (Invoke into tie consumed y m args)) G allowed x (stands (any_in_option (nat_eq x) into) (nat_eq x y || list_any (any_in_argument (nat_eq x)) args) (ap (any_in_option (nat_eq x)) q ∙ eq_itself x)))
+        get-some c.vars x (part-known C (Simple (Invoke into tie consumed y m args)) G allowed x (stands (any_in_option (nat_eq x) into) (nat_eq x y || list_any (any_in_argument (nat_eq x)) args) (ap (any_in_option (nat_eq x)) q ∙ eq_itself x)))
       where
         stands : (a b : Bool) → a ≡ true → (a || b) ≡ true
         stands true b e = refl
@@ -162,7 +168,7 @@ right-call u below n st into tie consumed y m args r G here allowed tied class =
     right : (p : Perm) → type_of c y ≡ Some (Ref p (Class r.class)) → RightCall c into tie consumed y args r p G
     right p is = record {
       is = is;
-      tied = sym (ap (λ o. same_tie tie (tie_of o consumed (list_all (is_harmless (type_of c)) args))) is) ∙ tied;
+      tied = sym (ap (λ o. same_tie tie (tie_of o consumed (list_all (is_harmless (type_of c)) args))) is) ∙ marks.0;
       alive = applies-none C (Simple (Invoke into tie consumed y m args)) G allowed Gone;
       fit = misfits.0;
       strong = weaks.0;
