@@ -56,6 +56,7 @@ pub mod WholeTrees
 pub mod ParBlocks
 pub mod NextLabels
 pub mod LeafCases
+pub mod CallCases
 pub mod JoinCases
 pub mod PictureEvents
 pub mod HiddenFree
