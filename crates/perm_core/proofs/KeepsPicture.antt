@@ -45,7 +45,6 @@ pub mod FieldValues
 pub mod LoadTurns
 pub mod TakeTurns
 pub mod ReadTurns
-pub mod TrapTurns
 pub mod FewerLive
 pub mod GoesOfTrees
 pub mod NodePremises

@@ -29,6 +29,7 @@ use Rattle.perm_core.proofs.KeepsPicture.NodePremises.{LeafFits}
 use Rattle.perm_core.proofs.KeepsPicture.ObjectTurns.{IsWrite, write-fits, write-objects, create-fits, create-objects}
 use Rattle.perm_core.proofs.KeepsPicture.ParBlocks.{blocks-aside}
 use Rattle.perm_core.proofs.KeepsPicture.ParTurns.{split-fits, split-objects}
+use Rattle.perm_core.proofs.KeepsPicture.ReadTurns.{IsRead, read-fits, read-objects}
 use Rattle.perm_core.proofs.KeepsPicture.ReturnTurns.{return-fits, return-objects}
 
 -- a branch with this code above this stack
@@ -54,6 +55,17 @@ module _ (u : UnitCode) (limit : ℕ) (labels : Labels) (heap : Heap) (k : Endin
     where
       b : Branch
       b = branch l n (Do span (Assign x a) rest) st close
+
+  -- a read of an object, or a field's value that is taken
+  pub read-turn : (span : Span) (i : Instruction) (rest : Code) (st : List (Frame Held)) (o : Op) (w : Held) (vs : List Held) (l' : Own) (t : ℕ) → IsRead i → LeafWith (Do span i rest) st → find (within limit) o heap ≡ Found w → Acts u l w i o vs → Stays u l l' vs
+      → TurnOf (Do span i rest) st o t (On l' rest st)
+  read-turn span i rest st o w vs l' t is leaf answered acts stays = record {
+    fits = read-fits u (within limit) labels heap at z below b span rest H w leaf.vars leaf.stack leaf.objects i o vs l' t is leaf.goes answered acts stays;
+    objects = read-objects u (within limit) labels heap at z below b span rest H w leaf.vars leaf.stack leaf.objects i o vs is leaf.goes answered acts;
+  }
+    where
+      b : Branch
+      b = branch l n (Do span i rest) st close
 
   -- a store to a field or an element
   pub write-turn : (span : Span) (i : Instruction) (rest : Code) (st : List (Frame Held)) (o : Op) (w : Held) (vs : List Held) (l' : Own) (t : ℕ) → IsWrite i → LeafWith (Do span i rest) st → Acts u l w i o vs → Stays u l l' vs

@@ -1,8 +1,8 @@
--- Variables and objects fit the next picture after each event, where they do after the turns that read an object, take a field's value or begin a call.
+-- Variables and objects fit the next picture after each event, where they do after the turns that begin a call.
 use Rattle.std.proofs.Common.{◌≡◌, ℕ, Bool, false, refl, Option, Some, None, List, ◌∷◌, sym, subst, inl, inr}
 use Rattle.std.specs.Prelude.{◌⊎◌}
 use Rattle.perm_tree.specs.declared.ast.Span.{Span}
-use Rattle.perm_tree.specs.Code.{Instruction, Declare, LoadField, LoadLength, LoadItem, TakeField, Invoke, Print, Tie, Argument, Routine, Code, Do, If, While, Recover, UnitCode}
+use Rattle.perm_tree.specs.Code.{Instruction, Declare, Invoke, Print, Tie, Argument, Routine, Code, Do, If, While, Recover, UnitCode}
 use Rattle.perm_tree.specs.Vars.{Vars}
 use Rattle.perm_meaning.specs.Names.{Mark}
 use Rattle.perm_meaning.specs.Expressions.{tagged}
@@ -18,7 +18,7 @@ use Rattle.perm_core.specs.Regions.{Zone, Labels}
 use Rattle.perm_core.specs.NextPicture.{is_failing}
 use Rattle.perm_core.specs.Unproved.{KeepsPicture}
 use Rattle.perm_core.proofs.KeepsPicture.JoinCases.{join-case}
-use Rattle.perm_core.proofs.KeepsPicture.LeafCases.{branch, LeafWith, TurnOf, assign-turn, write-turn, create-turn, part-turn, give-turn, return-turn}
+use Rattle.perm_core.proofs.KeepsPicture.LeafCases.{branch, LeafWith, TurnOf, assign-turn, read-turn, write-turn, create-turn, part-turn, give-turn, return-turn}
 use Rattle.perm_core.proofs.KeepsPicture.LeafTurns.{Acts, declares, assigns, loads, measures, reads, takes, stores, writes, prints, Stays, Begins, Goes_in, TurnTo, dying, ending, acting, making, beginning, left_block, right_block, into_loop, out_of_loop, parting, recovering, giving, returning}
 use Rattle.perm_core.proofs.KeepsPicture.NextLabels.{leaf-next, refused-next, join-next}
 use Rattle.perm_core.proofs.KeepsPicture.NodePremises.{NodeFits}
@@ -26,24 +26,14 @@ use Rattle.perm_core.proofs.KeepsPicture.Order.{keeps_order}
 use Rattle.perm_core.proofs.KeepsPicture.PlainTurns.{plain-fits}
 use Rattle.perm_core.proofs.KeepsPicture.WholeTrees.{IsNext, is-step, whole-next}
 
--- a statement that reads an object, or takes a field's value
-abbrev pub IsRead : Instruction → Type 0
-IsRead (LoadField x y f) = Unit {0}
-IsRead (LoadLength x y) = Unit {0}
-IsRead (LoadItem x y i) = Unit {0}
-IsRead (TakeField x y f) = Unit {0}
-IsRead i = ⊥
-
 module _ (u : UnitCode) (limit : ℕ) where
-  -- the turns that are proved elsewhere: reads, and calls that begin
-  pub record OtherTurns : Type 0 where
-    pub read : (labels : Labels) (heap : Heap) (k : Ending) (below : List ℕ) (at : Way → Way) (z : Zone) (H : Vars) (l : Own) (n : ℕ) (close : Option (Close Held)) (span : Span) (i : Instruction) (rest : Code) (st : List (Frame Held)) (o : Op) (w : Held) (vs : List Held) (l' : Own) (t : ℕ)
-        → IsRead i → LeafWith u limit labels heap k below at z H l n close (Do span i rest) st → find (within limit) o heap ≡ Found w → Acts u l w i o vs → Stays u l l' vs → TurnOf u limit labels heap k below at z H l n close (Do span i rest) st o t (On l' rest st)
+  -- the turns that are proved elsewhere: calls that begin
+  pub record CallTurns : Type 0 where
     pub begin : (labels : Labels) (heap : Heap) (k : Ending) (below : List ℕ) (at : Way → Way) (z : Zone) (H : Vars) (l : Own) (n : ℕ) (close : Option (Close Held)) (span : Span) (rest : Code) (st : List (Frame Held)) (into : Option ℕ) (tie : Tie) (consumed : Bool) (y m : ℕ) (args : List Argument) (r : Routine) (this : Held) (found vs saved : List Held) (lent : Option Held) (l' : Own) (c : Code) (caller : ℕ) (t : ℕ)
         → LeafWith u limit labels heap k below at z H l n close (Do span (Invoke into tie consumed y m args) rest) st → Begins u l tie consumed y m args r this found vs → c ≡ r.code → saved ≡ while_called tagged Moves tie y vs → lent ≡ lent_by Moves tie this → caller ≡ l.routine → Goes_in u l l' m (first_vars tagged r this found)
         → TurnOf u limit labels heap k below at z H l n close (Do span (Invoke into tie consumed y m args) rest) st Tick t (On l' c (OpenCall tie into y saved lent caller rest ∷ st))
 
-  module _ (others : OtherTurns) (labels : Labels) (heap : Heap) where
+  module _ (turns : CallTurns) (labels : Labels) (heap : Heap) where
     -- ---------- leaves ----------
     module _ (k : Ending) (below : List ℕ) (at : Way → Way) (z : Zone) (H : Vars) (l : Own) (n : ℕ) (close : Option (Close Held)) (w : Held) where
       abbrev LeafHas : Code → List (Frame Held) → Type 0
@@ -65,10 +55,10 @@ module _ (u : UnitCode) (limit : ℕ) where
       act-turn span _ rest st _ _ l' t leaf answered (assigns x a v ws one) stays = assign-turn u limit labels heap k below at z H l n close span x a rest st v ws l' t leaf one stays
       act-turn span i rest st o vs l' t leaf answered (stores y f a v ws r len one here) stays = write-turn u limit labels heap k below at z H l n close span i rest st o w vs l' t tt leaf (stores y f a v ws r len one here) stays
       act-turn span i rest st o vs l' t leaf answered (writes y j e v m r len f gives number here) stays = write-turn u limit labels heap k below at z H l n close span i rest st o w vs l' t tt leaf (writes y j e v m r len f gives number here) stays
-      act-turn span i rest st o vs l' t leaf answered (loads x y f r len here) stays = others.read labels heap k below at z H l n close span i rest st o w vs l' t tt leaf answered (loads x y f r len here) stays
-      act-turn span i rest st o vs l' t leaf answered (measures x y r len here) stays = others.read labels heap k below at z H l n close span i rest st o w vs l' t tt leaf answered (measures x y r len here) stays
-      act-turn span i rest st o vs l' t leaf answered (reads x y j r len f here) stays = others.read labels heap k below at z H l n close span i rest st o w vs l' t tt leaf answered (reads x y j r len f here) stays
-      act-turn span i rest st o vs l' t leaf answered (takes x y f r len here) stays = others.read labels heap k below at z H l n close span i rest st o w vs l' t tt leaf answered (takes x y f r len here) stays
+      act-turn span i rest st o vs l' t leaf answered (loads x y f r len here) stays = read-turn u limit labels heap k below at z H l n close span i rest st o w vs l' t tt leaf answered (loads x y f r len here) stays
+      act-turn span i rest st o vs l' t leaf answered (measures x y r len here) stays = read-turn u limit labels heap k below at z H l n close span i rest st o w vs l' t tt leaf answered (measures x y r len here) stays
+      act-turn span i rest st o vs l' t leaf answered (reads x y j r len f here) stays = read-turn u limit labels heap k below at z H l n close span i rest st o w vs l' t tt leaf answered (reads x y j r len f here) stays
+      act-turn span i rest st o vs l' t leaf answered (takes x y f r len here) stays = read-turn u limit labels heap k below at z H l n close span i rest st o w vs l' t tt leaf answered (takes x y f r len here) stays
 
       -- a turn that doesn't trap
       any-turn : (c : Code) (st : List (Frame Held)) (o : Op) (t : ℕ) (d : Did Held Mark) → LeafHas c st → find (within limit) o heap ≡ Found w → TurnTo u l w c st o d → is_failing u labels d ≡ false → Turns c st o t d
@@ -77,7 +67,7 @@ module _ (u : UnitCode) (limit : ℕ) where
       any-turn _ _ _ t _ leaf answered (acting span i rest st o vs l' acts stays) goes = act-turn span i rest st o vs l' t leaf answered acts stays
       any-turn _ _ _ t _ leaf answered (making span i rest st shape m x l' is same) goes = create-turn u limit labels heap k below at z H l n close span i rest st shape m x w l' t leaf is answered same
       any-turn _ _ _ t _ leaf answered (beginning span rest st into tie consumed y m args r this found vs saved lent l' c caller is code q1 q2 q3 on) goes =
-          others.begin labels heap k below at z H l n close span rest st into tie consumed y m args r this found vs saved lent l' c caller t leaf is code q1 q2 q3 on
+          turns.begin labels heap k below at z H l n close span rest st into tie consumed y m args r this found vs saved lent l' c caller t leaf is code q1 q2 q3 on
       any-turn _ _ _ t _ leaf answered (left_block span e own1 a own2 a2 rest st) goes = record {
         fits = plain-fits u labels heap.objects at z (branch l n (If span e own1 a own2 a2 rest) st close) t w _ _ _ _ tt leaf.vars leaf.stack leaf.right (left_block span e own1 a own2 a2 rest st);
         objects = leaf.objects;
@@ -114,8 +104,8 @@ module _ (u : UnitCode) (limit : ℕ) where
         subst (λ (q : Option Held). IsNext u limit labels heap o q at z Here (Leaf b)) (sym same) (refused-next u limit labels heap k below at z b H o node asks refused)
 
   -- each event leads from a state with a picture to one with the next picture, where those turns are as they must be
-  pub keeps-picture : (IsChecked u → OtherTurns) → KeepsPicture u limit
-  keeps-picture others labels s t w checked picture e =
+  pub keeps-picture : (IsChecked u → CallTurns) → KeepsPicture u limit
+  keeps-picture turns labels s t w checked picture e =
       let is = is-step u limit s t w e in
-      let all = whole-next u limit labels s t w picture is (node-next (others checked) labels s.heap is.op is.told is.answer) in
+      let all = whole-next u limit labels s t w picture is (node-next (turns checked) labels s.heap is.op is.told is.answer) in
       record { variables = all.0; objects = all.1; orderly = keeps_order u limit labels s t w checked picture e }
