@@ -8,11 +8,10 @@ use Rattle.perm_meaning.specs.Names.{Name}
 use Rattle.perm_meaning.specs.Objects.{Objects}
 use Rattle.perm_meaning.specs.Expressions.{assign}
 use Rattle.perm_meaning.specs.Machine.{Frame, Way}
-use Rattle.perm_meaning.specs.NamedHeap.{Held, Branch, Task}
+use Rattle.perm_meaning.specs.NamedHeap.{Held}
 use Rattle.perm_meaning.proofs.Leads.{some_inj}
 use Rattle.perm_core.specs.Regions.{Zone, Region, OwnOf, OfVariable, Labels, var_may_lead}
-use Rattle.perm_core.specs.Picture.{value_fits, variables_fit, stack_fits, branch_fits, tree_fits}
-use Rattle.perm_core.proofs.KeepsPicture.Beside.{branch-carry, tree-carry}
+use Rattle.perm_core.specs.Picture.{value_fits, variables_fit, stack_fits}
 use Rattle.perm_core.proofs.KeepsPicture.CallEnds.{set-cases, set-length}
 use Rattle.perm_core.proofs.KeepsPicture.CarriedValues.{AllFit, to-all, from-all, one-carry, stack-carry}
 use Rattle.perm_core.proofs.KeepsPicture.Joins.{stack-alone}
@@ -60,14 +59,3 @@ module _ (u : UnitCode) (labels labels' : Labels) (h : Objects Name) (m : MovesF
           pick (inr q) =
               subst (λ (ls : Labels). value_fits h (λ p n. var_may_lead p (OfVariable w k i) z (ls n)) s a ≡ true) (sym m.so)
               (one-carry u labels h ρ m.good w w k k i i z z s a (m.stay w k i) (m.own z) (fit.each i s a is q.1))
-
-  -- ---------- other nodes ----------
-  pub branch-after : (w : Way) (z : Zone) (b : Branch) → branch_fits u labels h w z b ≡ true → branch_fits u labels' h w z b ≡ true
-  branch-after w z b e =
-      subst (λ (ls : Labels). branch_fits u ls h w z b ≡ true) (sym m.so)
-      (branch-carry u labels h ρ m.good (λ y. Unit {0}) (λ y p. m.own y) w z b (λ i x. m.stay w i x) tt (λ i. tt) e)
-
-  pub tree-after : (at : Way → Way) (z : Zone) (t : Task) → tree_fits u labels h at z t ≡ true → tree_fits u labels' h at z t ≡ true
-  tree-after at z t e =
-      subst (λ (ls : Labels). tree_fits u ls h at z t ≡ true) (sym m.so)
-      (tree-carry u labels h ρ m.good (λ y. Unit {0}) (λ y p. m.own y) t at z (record { vars = λ w i x. m.stay (at w) i x; base = λ w i. tt; under = λ w y p. tt }) tt e)

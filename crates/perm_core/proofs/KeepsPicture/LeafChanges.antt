@@ -1,10 +1,10 @@
 -- What the event of a leaf does that the heap answers: a turn, and the change of labels that its code tells, unless the turn traps, which changes none.
-use Rattle.std.proofs.Common.{◌≡◌, ℕ, Bool, false, Some, None, List, refl, sym, ap, subst, ◌∙◌}
+use Rattle.std.proofs.Common.{◌≡◌, ℕ, Bool, true, false, Some, None, List, refl, sym, ap, subst, ◌∙◌}
 use Rattle.std.specs.Prelude.{cond}
 use Rattle.perm_tree.specs.Code.{Code, UnitCode}
 use Rattle.perm_meaning.specs.Names.{Mark}
 use Rattle.perm_meaning.specs.Effects.{Tick, Load, Store, Take, Make}
-use Rattle.perm_meaning.specs.Machine.{Frame, Leaf, Here, Stage, Over, Due, stage_by_code, stage, Did, Turn, Takes, NoTurn, turn_op, next_turn, leaf_op, leaf_on, told_to, done, fill}
+use Rattle.perm_meaning.specs.Machine.{Frame, Failure, Leaf, Here, Stage, Over, Due, stage_by_code, stage, Did, Dies, Turn, Takes, NoTurn, turn_op, next_turn, leaf_op, leaf_on, told_to, done, fill}
 use Rattle.perm_meaning.specs.NamedHeap.{Held, Heap, Op, Own, Branch, find}
 use Rattle.perm_meaning.specs.Steps.{Answer, Found, Refused, Missing}
 use Rattle.perm_meaning.proofs.Leads.{none_some, some_inj}
@@ -20,21 +20,34 @@ module _ (u : UnitCode) (labels : Labels) where
   IsTick Tick = Unit {0}
   IsTick o = ⊥
 
-  -- a turn that traps asks nothing
+  -- a turn that traps asks nothing, and the branch dies
+  pub record Died (o : Op) (d : Did Held Mark) : Type 0 where
+    pub failure : Failure
+    pub idle : o ≡ Tick
+    pub dies : d ≡ Dies failure
+
+  pub has-died : (l : Own) (w : Held) (c : Code) (st : List (Frame Held)) (o : Op) (d : Did Held Mark) → TurnTo u l w c st o d → is_failing u labels d ≡ true → Died o d
+  has-died _ _ _ _ _ _ (dying c st f) e = record { failure = f; idle = refl; dies = refl }
+  has-died _ _ _ _ _ _ (ending at a v q) e = absurd (let no : ⊥ = cc e in no)
+  has-died _ _ _ _ _ _ (acting at i rest st o vs l' acts stays) e = absurd (let no : ⊥ = cc e in no)
+  has-died _ _ _ _ _ _ (making at i rest st shape k x l' is q) e = absurd (let no : ⊥ = cc e in no)
+  has-died _ _ _ _ _ _ (beginning at rest st into tie consumed y m args r this found vs saved lent l' c caller is code q1 q2 q3 goes) e = absurd (let no : ⊥ = cc e in no)
+  has-died _ _ _ _ _ _ (left_block at x own1 a own2 a2 rest st) e = absurd (let no : ⊥ = cc e in no)
+  has-died _ _ _ _ _ _ (right_block at x own1 a own2 a2 rest st) e = absurd (let no : ⊥ = cc e in no)
+  has-died _ _ _ _ _ _ (into_loop at x own body rest st) e = absurd (let no : ⊥ = cc e in no)
+  has-died _ _ _ _ _ _ (out_of_loop at x own body rest st) e = absurd (let no : ⊥ = cc e in no)
+  has-died _ _ _ _ _ _ (parting at own1 a own2 a2 rest st p same) e = absurd (let no : ⊥ = cc e in no)
+  has-died _ _ _ _ _ _ (recovering at x own hides body rest st l' saved goes q) e = absurd (let no : ⊥ = cc e in no)
+  has-died _ _ _ _ _ _ (giving at y x own hides saved rest st v l' had q goes) e = absurd (let no : ⊥ = cc e in no)
+  has-died _ _ _ _ _ _ (returning at a tie into y saved lent caller rest st v l' q goes) e = absurd (let no : ⊥ = cc e in no)
+
+  -- so one that asks something doesn't trap
   fails-idle : (l : Own) (w : Held) (c : Code) (st : List (Frame Held)) (o : Op) (d : Did Held Mark) → TurnTo u l w c st o d → (IsTick o → ⊥) → is_failing u labels d ≡ false
-  fails-idle l w _ _ _ _ (dying c st f) asks = absurd (asks tt)
-  fails-idle l w _ _ _ _ (ending at a v q) asks = refl
-  fails-idle l w _ _ _ _ (acting at i rest st o vs l' acts stays) asks = refl
-  fails-idle l w _ _ _ _ (making at i rest st shape k x l' is q) asks = refl
-  fails-idle l w _ _ _ _ (beginning at rest st into tie consumed y m args r this found vs saved lent l' c caller is code q1 q2 q3 goes) asks = refl
-  fails-idle l w _ _ _ _ (left_block at x own1 a own2 a2 rest st) asks = refl
-  fails-idle l w _ _ _ _ (right_block at x own1 a own2 a2 rest st) asks = refl
-  fails-idle l w _ _ _ _ (into_loop at x own body rest st) asks = refl
-  fails-idle l w _ _ _ _ (out_of_loop at x own body rest st) asks = refl
-  fails-idle l w _ _ _ _ (parting at own1 a own2 a2 rest st p same) asks = refl
-  fails-idle l w _ _ _ _ (recovering at x own hides body rest st l' saved goes q) asks = refl
-  fails-idle l w _ _ _ _ (giving at y x own hides saved rest st v l' had q goes) asks = refl
-  fails-idle l w _ _ _ _ (returning at a tie into y saved lent caller rest st v l' q goes) asks = refl
+  fails-idle l w c st o d turn asks = go (is_failing u labels d) refl
+    where
+      go : (t : Bool) → is_failing u labels d ≡ t → t ≡ false
+      go true q = absurd (asks (subst IsTick (sym (has-died l w c st o d turn q).idle) tt))
+      go false q = refl
 
   -- what the heap finds
   abbrev what_found : Answer Held → Held

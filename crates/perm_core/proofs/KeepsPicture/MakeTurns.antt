@@ -107,7 +107,7 @@ module _ (u : UnitCode) (labels : Labels) (h : Objects Name) (at : Way → Way) 
   found = Reference (next_name b.own.mark) (length_of shape len)
 
   -- what was there keeps its shape and its label
-  pub made-keeps : KeepsShapes labels made h more
+  made-keeps : KeepsShapes labels made h more
   made-keeps n k l e = by_name (same_name n name) refl
     where
       by_name : (t : Bool) → same_name n name ≡ t → (has_shape (this_or t (new_object u shape len) (h n)) k l ≡ true) × (cond t to (labels n) ≡ labels n)

@@ -8,7 +8,7 @@ use Rattle.perm_meaning.specs.Values.{Value}
 use Rattle.perm_meaning.specs.Names.{Name, Mark, next_name}
 use Rattle.perm_meaning.specs.Objects.{Objects, field_of}
 use Rattle.perm_meaning.specs.Effects.{Tick, Load, Store, Take, Make}
-use Rattle.perm_meaning.specs.Machine.{Frame, Failure, Blocks, Leaf, Fork, Way, Here, Final, final, Did, Dies, done, resumed, join_of, fill}
+use Rattle.perm_meaning.specs.Machine.{Frame, Blocks, Leaf, Fork, Way, Here, Final, final, Did, Dies, done, resumed, join_of, fill}
 use Rattle.perm_meaning.specs.NamedHeap.{Held, Heap, Op, Own, Branch, Task, found, found_nothing, has_room, find}
 use Rattle.perm_meaning.specs.Steps.{Found, Refused, within}
 use Rattle.perm_meaning.proofs.Leads.{some_inj, none_some}
@@ -17,7 +17,7 @@ use Rattle.perm_core.specs.Endings.{Ending}
 use Rattle.perm_core.specs.Regions.{Zone, Labels}
 use Rattle.perm_core.specs.Picture.{context_of, tree_fits, object_fits}
 use Rattle.perm_core.specs.NextPicture.{Change, moving, no_change, relabelled, join_moves, is_failing, code_change, change, unless_refused}
-use Rattle.perm_core.proofs.KeepsPicture.LeafChanges.{LeafTold, leaf-told}
+use Rattle.perm_core.proofs.KeepsPicture.LeafChanges.{has-died, LeafTold, leaf-told}
 use Rattle.perm_core.proofs.KeepsPicture.LeafTurns.{Acts, declares, assigns, loads, measures, reads, takes, stores, writes, prints, TurnTo, dying, ending, acting, making, beginning, left_block, right_block, into_loop, out_of_loop, parting, recovering, giving, returning}
 use Rattle.perm_core.proofs.KeepsPicture.LocalChanges.{IsAround, local-around, no-local}
 use Rattle.perm_core.proofs.KeepsPicture.NodeChanges.{code-local, join-local}
@@ -68,7 +68,7 @@ abbrev made_by : Op → Option Mark
 made_by (Make by shape n) = Some by
 made_by o = None
 
-module _ (u : UnitCode) (labels : Labels) (l : Own) (w : Held) where
+module _ (u : UnitCode) (l : Own) (w : Held) where
   acts-make : (i : Instruction) (o : Op) (vs : List Held) → Acts u l w i o vs → made_by o ≡ None
   acts-make _ _ _ (declares x) = refl
   acts-make _ _ _ (assigns x a v vs one) = refl
@@ -102,27 +102,6 @@ module _ (u : UnitCode) (labels : Labels) (l : Own) (w : Held) where
       go : (made_by o ≡ None) ⊎ (made_by o ≡ Some l.mark) → by ≡ l.mark
       go (inl q) = none_some (sym q ∙ ap made_by same)
       go (inr q) = some_inj (sym (ap made_by same) ∙ q)
-
-  -- a turn that traps asks nothing, and the branch dies
-  pub record Died (o : Op) (d : Did Held Mark) : Type 0 where
-    pub failure : Failure
-    pub idle : o ≡ Tick
-    pub dies : d ≡ Dies failure
-
-  pub has-died : (c : Code) (st : List (Frame Held)) (o : Op) (d : Did Held Mark) → TurnTo u l w c st o d → is_failing u labels d ≡ true → Died o d
-  has-died _ _ _ _ (dying c st f) e = record { failure = f; idle = refl; dies = refl }
-  has-died _ _ _ _ (ending at a v q) e = absurd (let no : ⊥ = cc e in no)
-  has-died _ _ _ _ (acting at i rest st o vs l' acts stays) e = absurd (let no : ⊥ = cc e in no)
-  has-died _ _ _ _ (making at i rest st shape k x l' is q) e = absurd (let no : ⊥ = cc e in no)
-  has-died _ _ _ _ (beginning at rest st into tie consumed y m args r this found vs saved lent l' c caller is code q1 q2 q3 goes) e = absurd (let no : ⊥ = cc e in no)
-  has-died _ _ _ _ (left_block at x own1 a own2 a2 rest st) e = absurd (let no : ⊥ = cc e in no)
-  has-died _ _ _ _ (right_block at x own1 a own2 a2 rest st) e = absurd (let no : ⊥ = cc e in no)
-  has-died _ _ _ _ (into_loop at x own body rest st) e = absurd (let no : ⊥ = cc e in no)
-  has-died _ _ _ _ (out_of_loop at x own body rest st) e = absurd (let no : ⊥ = cc e in no)
-  has-died _ _ _ _ (parting at own1 a own2 a2 rest st p same) e = absurd (let no : ⊥ = cc e in no)
-  has-died _ _ _ _ (recovering at x own hides body rest st l' saved goes q) e = absurd (let no : ⊥ = cc e in no)
-  has-died _ _ _ _ (giving at y x own hides saved rest st v l' had q goes) e = absurd (let no : ⊥ = cc e in no)
-  has-died _ _ _ _ (returning at a tie into y saved lent caller rest st v l' q goes) e = absurd (let no : ⊥ = cc e in no)
 
 module _ (u : UnitCode) (limit : ℕ) (labels : Labels) (heap : Heap) where
   -- ---------- what is asked of a turn and of a join ----------
@@ -178,7 +157,7 @@ module _ (u : UnitCode) (limit : ℕ) (labels : Labels) (heap : Heap) where
           ap (λ x. unless_refused limit heap x (change u labels at z Here (Leaf b))) asks ∙ answered-change limit heap o w (change u labels at z Here (Leaf b)) answered ∙ told.changes c ∙ ap (λ x. cond x no_change c) q
 
       makes : (by : Mark) (shape : Shape) (n : ℕ) → o ≡ Make by shape n → heap.objects (next_name by) ≡ None
-      makes by shape n q = ap (λ (m : Mark). heap.objects (next_name m)) (makes-by-mark u labels b.own w b.code b.stack o told.d told.turn by shape n q) ∙ leaf.new
+      makes by shape n q = ap (λ (m : Mark). heap.objects (next_name m)) (makes-by-mark u b.own w b.code b.stack o told.d told.turn by shape n q) ∙ leaf.new
 
       go : (t : Bool) → is_failing u labels told.d ≡ t → Next o (Some w) at z (Leaf b)
       go false q =

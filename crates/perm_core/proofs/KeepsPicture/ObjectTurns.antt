@@ -20,8 +20,7 @@ use Rattle.perm_core.specs.NextPicture.{Change, relabelled, no_change, instructi
 use Rattle.perm_core.proofs.KeepsPicture.CallEnds.{StartsLow}
 use Rattle.perm_core.proofs.KeepsPicture.ItemStores.{item-fits, item-objects}
 use Rattle.perm_core.proofs.KeepsPicture.LeafTurns.{Acts, declares, assigns, loads, measures, reads, takes, stores, writes, prints, Creates, object, array, Stays}
-use Rattle.perm_core.proofs.KeepsPicture.MakeTurns.{made-keeps, make-fits, make-objects}
-use Rattle.perm_core.proofs.KeepsPicture.OtherHeaps.{KeepsShapes}
+use Rattle.perm_core.proofs.KeepsPicture.MakeTurns.{make-fits, make-objects}
 use Rattle.perm_core.proofs.KeepsPicture.StoreTurns.{store-fits, store-objects}
 
 -- ---------- allocations ----------
@@ -129,13 +128,3 @@ module _ (u : UnitCode) (fits : ℕ → Bool) (labels : Labels) (heap : Heap) (a
       go : (i : Instruction) (shape : Shape) (n x : ℕ) → ComesNext i → Creates u b.own i shape n x → (alone : Bool) → object_fits u (told i) (allocated true alone u b.own.mark shape n heap).objects m ((allocated true alone u b.own.mark shape n heap).objects m) ≡ true
       go _ _ _ _ next (object x k ts q) alone = make-objects u labels heap.objects at z below b span _ _ _ x rest b.stack H next.0 vars stack (object x k ts q) new all m
       go _ _ _ _ next (array x e n) alone = make-objects u labels heap.objects at z below b span _ _ n x rest b.stack H next.0 vars stack (array x e n) new all m
-
-  -- what was there keeps its shape and its label
-  pub create-keeps : (i : Instruction) (shape : Shape) (n x : ℕ) → ComesNext i → Creates u b.own i shape n x → heap.objects (next_name b.own.mark) ≡ None → find fits (Make b.own.mark shape n) heap ≡ Found w
-      → KeepsShapes labels (told i) heap.objects (after u fits (Make b.own.mark shape n) heap).objects
-  create-keeps i shape n x next is new answered =
-      subst (λ (q : Bool). KeepsShapes labels (told i) heap.objects (allocated q (fits (size n)) u b.own.mark shape n heap).objects) (sym (found-room fits b.own.mark shape n heap w answered).0) (go i shape n x next is (fits (size n)))
-    where
-      go : (i : Instruction) (shape : Shape) (n x : ℕ) → ComesNext i → Creates u b.own i shape n x → (alone : Bool) → KeepsShapes labels (told i) heap.objects (allocated true alone u b.own.mark shape n heap).objects
-      go _ _ _ _ next (object x k ts q) alone = made-keeps u labels heap.objects at z below b span _ _ _ x rest b.stack H next.0 vars stack (object x k ts q) new
-      go _ _ _ _ next (array x e n) alone = made-keeps u labels heap.objects at z below b span _ _ n x rest b.stack H next.0 vars stack (array x e n) new
