@@ -1,6 +1,5 @@
 -- Variables and objects fit the next picture after each event, where they do after the turns that begin a call.
-use Rattle.std.proofs.Common.{◌≡◌, ℕ, Bool, false, refl, Option, Some, None, List, ◌∷◌, sym, subst, inl, inr}
-use Rattle.std.specs.Prelude.{◌⊎◌}
+use Rattle.std.proofs.Common.{◌≡◌, ℕ, Bool, false, refl, Option, Some, List, ◌∷◌, sym, subst, inl, inr}
 use Rattle.perm_tree.specs.declared.ast.Span.{Span}
 use Rattle.perm_tree.specs.Code.{Instruction, Declare, Invoke, Print, Tie, Argument, Routine, Code, Do, If, While, Recover, UnitCode}
 use Rattle.perm_tree.specs.Vars.{Vars}
@@ -10,7 +9,7 @@ use Rattle.perm_meaning.specs.Effects.{Tick, first_vars}
 use Rattle.perm_meaning.specs.Custody.{Moves, while_called, lent_by}
 use Rattle.perm_meaning.specs.Machine.{Frame, OpenCall, Close, Leaf, Fork, Way, Here, Did, On}
 use Rattle.perm_meaning.specs.NamedHeap.{Held, Heap, Op, Own, Task, find}
-use Rattle.perm_meaning.specs.Steps.{Found, Refused, within}
+use Rattle.perm_meaning.specs.Steps.{Found, within}
 use Rattle.perm_core.specs.Core.{look}
 use Rattle.perm_core.specs.Claims.{IsChecked}
 use Rattle.perm_core.specs.Endings.{Ending}
@@ -24,7 +23,8 @@ use Rattle.perm_core.proofs.KeepsPicture.NextLabels.{leaf-next, refused-next, jo
 use Rattle.perm_core.proofs.KeepsPicture.NodePremises.{NodeFits}
 use Rattle.perm_core.proofs.KeepsPicture.Order.{keeps_order}
 use Rattle.perm_core.proofs.KeepsPicture.PlainTurns.{plain-fits}
-use Rattle.perm_core.proofs.KeepsPicture.WholeTrees.{IsNext, is-step, whole-next}
+use Rattle.perm_core.proofs.KeepsPicture.TreeEvents.{IsTold, is-step}
+use Rattle.perm_core.proofs.KeepsPicture.WholeTrees.{IsNext, whole-next}
 
 module _ (u : UnitCode) (limit : ℕ) where
   -- the turns that are proved elsewhere: calls that begin
@@ -94,8 +94,7 @@ module _ (u : UnitCode) (limit : ℕ) where
 
     -- ---------- events ----------
     -- the event of a node leaves what fits the next labels
-    node-next : (o : Op) (v : Option Held) → ((x : Held) × ((v ≡ Some x) × (find (within limit) o heap ≡ Found x))) ⊎ ((v ≡ None) × (find (within limit) o heap ≡ Refused))
-        → (k : Ending) (below : List ℕ) (at : Way → Way) (z : Zone) (t : Task) (H : Vars) → NodeFits u labels heap k below at z t H → look u Here t ≡ Some o → IsNext u limit labels heap o v at z Here t
+    node-next : (o : Op) (v : Option Held) → IsTold limit o v heap → (k : Ending) (below : List ℕ) (at : Way → Way) (z : Zone) (t : Task) (H : Vars) → NodeFits u labels heap k below at z t H → look u Here t ≡ Some o → IsNext u limit labels heap o v at z Here t
     node-next o v answer k below at z (Fork b p l r) H node asks = join-next u limit labels heap k below at z b p l r H o v node asks (λ x y left right. join-case u limit labels heap k below at z b p l r H node x y left right)
     node-next o v (inl (x, (same, answered))) k below at z (Leaf b) H node asks =
         subst (λ (q : Option Held). IsNext u limit labels heap o q at z Here (Leaf b)) (sym same)

@@ -1,12 +1,14 @@
--- What an event does to a tree, case by case: a leaf takes a turn or is refused an allocation, a parent whose sides are over goes on, or it is an event of a side.
-use Rattle.std.proofs.Common.{◌≡◌, ℕ, Option, Some, None, refl, sym, subst}
+-- What an event does to a tree, case by case: a leaf takes a turn or is refused an allocation, a parent whose sides are over goes on, or it is an event of a side; and to a state.
+use Rattle.std.proofs.Common.{◌≡◌, ℕ, Option, Some, None, refl, sym, ap, subst, inl, inr}
+use Rattle.std.specs.Prelude.{◌⊎◌}
 use Rattle.perm_tree.specs.Code.{UnitCode}
 use Rattle.perm_meaning.specs.Effects.{Tick}
 use Rattle.perm_meaning.specs.Names.{Mark}
 use Rattle.perm_meaning.specs.Machine.{Close, Returning, Failing, NoRoom, Leaf, Fork, Blocks, Way, Here, GoL, GoR, Final, Stage, Over, Due, stage_by_code, stage_from, stage, final, if_both_over, Did, Turn, Takes, NoTurn, turn_op, next_turn, leaf_op, leaf_on, ended, done, told_to, resumed, join_of, fill}
-use Rattle.perm_meaning.specs.NamedHeap.{Held, Op, Own, Branch, Task}
+use Rattle.perm_meaning.specs.NamedHeap.{Held, Heap, Op, Own, Branch, Task, State, find, after, memory}
+use Rattle.perm_meaning.specs.Steps.{Answer, Found, Refused, Missing, within, answered, asked}
 use Rattle.perm_meaning.proofs.Leads.{none_some, some_inj}
-use Rattle.perm_core.specs.Core.{core, look}
+use Rattle.perm_core.specs.Core.{core, look, step}
 use Rattle.perm_core.proofs.KeepsPicture.LeafTurns.{TurnTo, TurnTells, turn-tells}
 
 -- a step is due only of a branch that has no end
@@ -49,3 +51,36 @@ module _ (u : UnitCode) where
   event-at o v (GoR w) (Leaf b) e = none_some e
   event-at o v (GoL w) (Fork b p l r) e = on_left w b p l r (fill (core u) w l v) (event-at o v w l e)
   event-at o v (GoR w) (Fork b p l r) e = on_right w b p l r (fill (core u) w r v) (event-at o v w r e)
+
+-- ---------- states ----------
+-- what is told is what the heap finds, or nothing where it refuses
+abbrev pub IsTold : ℕ → Op → Option Held → Heap → Type 0
+IsTold limit o v h = ((x : Held) × ((v ≡ Some x) × (find (within limit) o h ≡ Found x))) ⊎ ((v ≡ None) × (find (within limit) o h ≡ Refused))
+
+-- the event of a node, by what it asks and is told
+pub record IsStep (u : UnitCode) (limit : ℕ) (s t : State) (w : Way) : Type 0 where
+  pub op : Op
+  pub told : Option Held
+  pub looks : look u w s.task ≡ Some op
+  pub task : t.task ≡ fill (core u) w s.task told
+  pub heap : t.heap ≡ after u (within limit) op s.heap
+  pub answer : IsTold limit op told s.heap
+
+pub is-step : (u : UnitCode) (limit : ℕ) (s t : State) (w : Way) → step u limit s w ≡ Some t → IsStep u limit s t w
+is-step u limit s t w e = looked (look u w s.task) refl e
+  where
+    made : (o : Op) (v : Option Held) → look u w s.task ≡ Some o → record { task = fill (core u) w s.task v; heap = after u (within limit) o s.heap } ≡ t → IsTold limit o v s.heap → IsStep u limit s t w
+    made o v q same answer = record { op = o; told = v; looks = q; task = sym (ap (λ (z : State). z.task) same); heap = sym (ap (λ (z : State). z.heap) same); answer = answer }
+
+    reply : (o : Op) (x : Answer Held) → look u w s.task ≡ Some o → find (within limit) o s.heap ≡ x → answered (core u) (memory u) (within limit) s w o x ≡ Some t → IsStep u limit s t w
+    reply o (Found v) q f e = made o (Some v) q (some_inj e) (inl (v, (refl, f)))
+    reply o Refused q f e = made o None q (some_inj e) (inr (refl, f))
+    reply o Missing q f e = none_some e
+
+    looked : (x : Option Op) → look u w s.task ≡ x → asked (core u) (memory u) (within limit) s w x ≡ Some t → IsStep u limit s t w
+    looked None q e = none_some e
+    looked (Some o) q e = reply o (find (within limit) o s.heap) q refl e
+
+-- what the event does to the tree
+pub step-event : (u : UnitCode) (limit : ℕ) (s t : State) (w : Way) → (is : IsStep u limit s t w) → EventAt u is.op is.told w s.task t.task
+step-event u limit s t w is = subst (λ (x : Task). EventAt u is.op is.told w s.task x) (sym is.task) (event-at u is.op is.told w s.task is.looks)

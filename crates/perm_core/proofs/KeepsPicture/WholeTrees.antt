@@ -1,5 +1,5 @@
 -- What holds at the node of an event, of the labels and the heap after it, holds of the whole tree.
-use Rattle.std.proofs.Common.{◌≡◌, ℕ, true, Option, Some, None, List, [], refl, sym, ap, subst, ◌∙◌, inl, inr}
+use Rattle.std.proofs.Common.{◌≡◌, ℕ, true, Option, Some, List, [], sym, ap, subst, ◌∙◌, inl, inr}
 use Rattle.std.specs.Prelude.{◌⊎◌, ◌&&◌}
 use Rattle.std.proofs.lemmas.Bool.{and_parts}
 use Rattle.perm_tree.specs.Code.{UnitCode}
@@ -8,11 +8,11 @@ use Rattle.perm_meaning.specs.Names.{Name, Side, OnLeft, OnRight}
 use Rattle.perm_meaning.specs.Objects.{Objects}
 use Rattle.perm_meaning.specs.Machine.{Blocks, Leaf, Fork, Way, Here, GoL, GoR, fill}
 use Rattle.perm_meaning.specs.NamedHeap as named
-use Rattle.perm_meaning.specs.NamedHeap.{Held, Heap, Op, Branch, Task, State, find, memory}
-use Rattle.perm_meaning.specs.Steps.{Answer, Found, Refused, Missing, within, answered, asked}
-use Rattle.perm_meaning.proofs.Leads.{some_inj, none_some}
+use Rattle.perm_meaning.specs.NamedHeap.{Held, Heap, Op, Branch, Task, State}
+use Rattle.perm_meaning.specs.Steps.{within}
+use Rattle.perm_meaning.proofs.Leads.{none_some}
 use Rattle.perm_meaning.proofs.SameName.{together}
-use Rattle.perm_core.specs.Core.{core, look, step}
+use Rattle.perm_core.specs.Core.{core, look}
 use Rattle.perm_core.specs.Endings.{Ending, ByReturn, ByNothing}
 use Rattle.perm_core.specs.Regions.{Zone, Base, Under, Labels, top_zone, left_zone, right_zone}
 use Rattle.perm_core.specs.Picture.{mode_in, branch_fits, tree_fits, object_fits, hidden_above, IsPicture}
@@ -22,6 +22,7 @@ use Rattle.perm_core.proofs.KeepsPicture.Beside.{IsAside, branch-carry, tree-car
 use Rattle.perm_core.proofs.KeepsPicture.LocalChanges.{IsAround}
 use Rattle.perm_core.proofs.KeepsPicture.NodePremises.{NodeFits, left-node, right-node, root-node}
 use Rattle.perm_core.proofs.KeepsPicture.OtherHeaps.{branch-more, tree-more}
+use Rattle.perm_core.proofs.KeepsPicture.TreeEvents.{IsStep}
 
 module _ (u : UnitCode) (labels labels' : Labels) (h h' : Objects Name) where
   -- what is left alone by an event of a side is left alone by one of the whole
@@ -123,31 +124,6 @@ module _ (u : UnitCode) (limit : ℕ) (labels : Labels) (heap : Heap) where
       }
 
 -- ---------- states ----------
--- the event of a node, by what it asks and is told
-pub record IsStep (u : UnitCode) (limit : ℕ) (s t : State) (w : Way) : Type 0 where
-  pub op : Op
-  pub told : Option Held
-  pub looks : look u w s.task ≡ Some op
-  pub task : t.task ≡ fill (core u) w s.task told
-  pub heap : t.heap ≡ named.after u (within limit) op s.heap
-  pub answer : ((x : Held) × ((told ≡ Some x) × (find (within limit) op s.heap ≡ Found x))) ⊎ ((told ≡ None) × (find (within limit) op s.heap ≡ Refused))
-
-pub is-step : (u : UnitCode) (limit : ℕ) (s t : State) (w : Way) → step u limit s w ≡ Some t → IsStep u limit s t w
-is-step u limit s t w e = looked (look u w s.task) refl e
-  where
-    made : (o : Op) (v : Option Held) → look u w s.task ≡ Some o → record { task = fill (core u) w s.task v; heap = named.after u (within limit) o s.heap } ≡ t
-        → ((x : Held) × ((v ≡ Some x) × (find (within limit) o s.heap ≡ Found x))) ⊎ ((v ≡ None) × (find (within limit) o s.heap ≡ Refused)) → IsStep u limit s t w
-    made o v q same answer = record { op = o; told = v; looks = q; task = sym (ap (λ (z : State). z.task) same); heap = sym (ap (λ (z : State). z.heap) same); answer = answer }
-
-    reply : (o : Op) (x : Answer Held) → look u w s.task ≡ Some o → find (within limit) o s.heap ≡ x → answered (core u) (memory u) (within limit) s w o x ≡ Some t → IsStep u limit s t w
-    reply o (Found v) q f e = made o (Some v) q (some_inj e) (inl (v, (refl, f)))
-    reply o Refused q f e = made o None q (some_inj e) (inr (refl, f))
-    reply o Missing q f e = none_some e
-
-    looked : (x : Option Op) → look u w s.task ≡ x → asked (core u) (memory u) (within limit) s w x ≡ Some t → IsStep u limit s t w
-    looked None q e = none_some e
-    looked (Some o) q e = reply o (find (within limit) o s.heap) q refl e
-
 -- variables and objects of the state after an event fit the next picture, where they do at the node of each event
 pub whole-next : (u : UnitCode) (limit : ℕ) (labels : Labels) (s t : State) (w : Way) → (picture : IsPicture u labels s) → (is : IsStep u limit s t w)
     → ((k : Ending) (below : List ℕ) (at : Way → Way) (z : Zone) (x : Task) (H : Vars) → NodeFits u labels s.heap k below at z x H → look u Here x ≡ Some is.op → IsNext u limit labels s.heap is.op is.told at z Here x)
