@@ -13,10 +13,12 @@ use Rattle.perm_meaning.specs.Steps.{Found, within}
 use Rattle.perm_core.specs.Core.{look}
 use Rattle.perm_core.specs.Claims.{IsChecked}
 use Rattle.perm_core.specs.Endings.{Ending}
+use Rattle.perm_core.specs.Whole.{IsWhole}
 use Rattle.perm_core.specs.Regions.{Zone, Labels}
 use Rattle.perm_core.specs.NextPicture.{is_failing}
 use Rattle.perm_core.specs.Unproved.{KeepsPicture}
 use Rattle.perm_core.proofs.KeepsPicture.JoinCases.{join-case}
+use Rattle.perm_core.proofs.KeepsPicture.CallCases.{begin-turn}
 use Rattle.perm_core.proofs.KeepsPicture.LeafCases.{branch, LeafWith, TurnOf, assign-turn, read-turn, write-turn, create-turn, part-turn, give-turn, return-turn}
 use Rattle.perm_core.proofs.KeepsPicture.LeafTurns.{Acts, declares, assigns, loads, measures, reads, takes, stores, writes, prints, Stays, Begins, Goes_in, TurnTo, dying, ending, acting, making, beginning, left_block, right_block, into_loop, out_of_loop, parting, recovering, giving, returning}
 use Rattle.perm_core.proofs.KeepsPicture.NextLabels.{leaf-next, refused-next, join-next}
@@ -27,13 +29,7 @@ use Rattle.perm_core.proofs.KeepsPicture.TreeEvents.{IsTold, is-step}
 use Rattle.perm_core.proofs.KeepsPicture.WholeTrees.{IsNext, whole-next}
 
 module _ (u : UnitCode) (limit : ℕ) where
-  -- the turns that are proved elsewhere: calls that begin
-  pub record CallTurns : Type 0 where
-    pub begin : (labels : Labels) (heap : Heap) (k : Ending) (below : List ℕ) (at : Way → Way) (z : Zone) (H : Vars) (l : Own) (n : ℕ) (close : Option (Close Held)) (span : Span) (rest : Code) (st : List (Frame Held)) (into : Option ℕ) (tie : Tie) (consumed : Bool) (y m : ℕ) (args : List Argument) (r : Routine) (this : Held) (found vs saved : List Held) (lent : Option Held) (l' : Own) (c : Code) (caller : ℕ) (t : ℕ)
-        → LeafWith u limit labels heap k below at z H l n close (Do span (Invoke into tie consumed y m args) rest) st → Begins u l tie consumed y m args r this found vs → c ≡ r.code → saved ≡ while_called tagged Moves tie y vs → lent ≡ lent_by Moves tie this → caller ≡ l.routine → Goes_in u l l' m (first_vars tagged r this found)
-        → TurnOf u limit labels heap k below at z H l n close (Do span (Invoke into tie consumed y m args) rest) st Tick t (On l' c (OpenCall tie into y saved lent caller rest ∷ st))
-
-  module _ (turns : CallTurns) (labels : Labels) (heap : Heap) where
+  module _ (whole : IsWhole u) (labels : Labels) (heap : Heap) where
     -- ---------- leaves ----------
     module _ (k : Ending) (below : List ℕ) (at : Way → Way) (z : Zone) (H : Vars) (l : Own) (n : ℕ) (close : Option (Close Held)) (w : Held) where
       abbrev LeafHas : Code → List (Frame Held) → Type 0
@@ -67,7 +63,7 @@ module _ (u : UnitCode) (limit : ℕ) where
       any-turn _ _ _ t _ leaf answered (acting span i rest st o vs l' acts stays) goes = act-turn span i rest st o vs l' t leaf answered acts stays
       any-turn _ _ _ t _ leaf answered (making span i rest st shape m x l' is same) goes = create-turn u limit labels heap k below at z H l n close span i rest st shape m x w l' t leaf is answered same
       any-turn _ _ _ t _ leaf answered (beginning span rest st into tie consumed y m args r this found vs saved lent l' c caller is code q1 q2 q3 on) goes =
-          turns.begin labels heap k below at z H l n close span rest st into tie consumed y m args r this found vs saved lent l' c caller t leaf is code q1 q2 q3 on
+          begin-turn u limit whole labels heap k below at z H l n close span rest st into tie consumed y m args r this found vs saved lent l' c caller t leaf is code q1 q2 q3 on
       any-turn _ _ _ t _ leaf answered (left_block span e own1 a own2 a2 rest st) goes = record {
         fits = plain-fits u labels heap.objects at z (branch l n (If span e own1 a own2 a2 rest) st close) t w _ _ _ _ tt leaf.vars leaf.stack leaf.right (left_block span e own1 a own2 a2 rest st);
         objects = leaf.objects;
@@ -102,9 +98,9 @@ module _ (u : UnitCode) (limit : ℕ) where
     node-next o v (inr (same, refused)) k below at z (Leaf b) H node asks =
         subst (λ (q : Option Held). IsNext u limit labels heap o q at z Here (Leaf b)) (sym same) (refused-next u limit labels heap k below at z b H o node asks refused)
 
-  -- each event leads from a state with a picture to one with the next picture, where those turns are as they must be
-  pub keeps-picture : (IsChecked u → CallTurns) → KeepsPicture u limit
-  keeps-picture turns labels s t w checked picture e =
+  -- each event leads from a state with a picture to one with the next picture
+  pub keeps-picture : KeepsPicture u limit
+  keeps-picture labels s t w checked picture e =
       let is = is-step u limit s t w e in
-      let all = whole-next u limit labels s t w picture is (node-next (turns checked) labels s.heap is.op is.told is.answer) in
+      let all = whole-next u limit labels s t w picture is (node-next checked.whole labels s.heap is.op is.told is.answer) in
       record { variables = all.0; objects = all.1; orderly = keeps_order u limit labels s t w checked picture e }
