@@ -31,4 +31,5 @@ mod WordRuns
 pub mod WordsShown
 mod ZonesApart
 pub mod KeepsPicture
+pub mod Sound
 mod Examples

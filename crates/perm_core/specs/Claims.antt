@@ -15,9 +15,9 @@ use Rattle.perm_core.specs.WordCore as word_core
 use Rattle.perm_meaning.specs.Literals.{NumbersFit, UnitFits}
 use Rattle.perm_meaning.specs.Shows.{Bases, Grows, IsShown, IsShownBy}
 use Rattle.perm_core.specs.Whole.{IsWhole}
-use Rattle.perm_core.specs.Picture.{IsOrderly, IsPicture}
+use Rattle.perm_core.specs.Picture.{IsPicture}
 use Rattle.perm_core.specs.Regions.{Labels}
-use Rattle.perm_core.specs.NextPicture.{first_picture}
+use Rattle.perm_core.specs.NextPicture.{first_picture, next_picture}
 use Rattle.perm_core.specs.Bag.{Picks, IsIn, IsDistinct}
 use Rattle.perm_core.specs.Pieces.{Foot, OnRightSide, Numbered, Piece, Held, held_task, pieces, numbers, AllOver, IsAsideIn}
 
@@ -44,9 +44,13 @@ module _ (u : UnitCode) (limit : ℕ) where
   abbrev pub OpensWithPicture : List ℤ → ℕ → Type 0
   OpensWithPicture input turns = (r : Routine) → IsChecked u → Opens input r → IsPicture u first_picture (opening_state u input turns r)
 
-  -- each event leads from a state with a picture to an orderly one
-  abbrev pub KeepsOrder : Type 0
-  KeepsOrder = (labels : Labels) (s t : State) (w : Way) → IsChecked u → IsPicture u labels s → step u limit s w ≡ Some t → IsOrderly u t
+  -- each event leads from a state with a picture to one with the next picture
+  abbrev pub KeepsPicture : Type 0
+  KeepsPicture = (labels : Labels) (s t : State) (w : Way) → IsChecked u → IsPicture u labels s → step u limit s w ≡ Some t → IsPicture u (next_picture u limit labels s w) t
+
+  -- so each lawful list of events from the opening leads to a state with a picture
+  abbrev pub ReachesPicture : List ℤ → ℕ → Type 0
+  ReachesPicture input turns = (r : Routine) (ws : List Way) (t : State) → IsChecked u → Opens input r → runs u limit ws (opening_state u input turns r) ≡ Some t → (labels : Labels) × IsPicture u labels t
 
   -- a state with a picture has no conflict
   abbrev pub HasNoConflict : Type 0

@@ -6,16 +6,9 @@ use Rattle.perm_meaning.specs.NamedHeap as named
 use Rattle.perm_meaning.specs.NamedHeap.{State}
 use Rattle.perm_meaning.specs.Outcome.{RanFull, outcome, opening_state}
 use Rattle.perm_core.specs.Core.{step, runs, IsComplete, core_outcome}
-use Rattle.perm_core.specs.Regions.{Labels}
-use Rattle.perm_core.specs.Picture.{IsPicture}
-use Rattle.perm_core.specs.NextPicture.{next_picture}
 use Rattle.perm_core.specs.Claims.{IsChecked, Opens, Refuses}
 
 module _ (u : UnitCode) (limit : ℕ) where
-  -- each event leads from a state with a picture to one with the next picture
-  abbrev pub KeepsPicture : Type 0
-  KeepsPicture = (labels : Labels) (s t : State) (w : Way) → IsChecked u → IsPicture u labels s → step u limit s w ≡ Some t → IsPicture u (next_picture u limit labels s w) t
-
   -- an event of the list is a refused allocation
   abbrev pub SomeRefused : List Way → State → Type 0
   SomeRefused [] s = ⊥

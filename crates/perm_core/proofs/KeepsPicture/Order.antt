@@ -12,7 +12,7 @@ use Rattle.perm_meaning.specs.Machine.{Way, Here}
 use Rattle.perm_meaning.specs.NamedHeap.{Held, Op, State, Heap, has_room, found, find, after}
 use Rattle.perm_meaning.specs.Steps.{Found, Refused, within}
 use Rattle.perm_meaning.proofs.Leads.{some_inj}
-use Rattle.perm_core.specs.Claims.{IsChecked, KeepsOrder}
+use Rattle.perm_core.specs.Claims.{IsChecked}
 use Rattle.perm_core.specs.Endings.{ByReturn, is_by_return}
 use Rattle.perm_core.specs.Regions.{Base, Labels}
 use Rattle.perm_core.specs.Picture.{MayBeGiven, TreeGoes, IsOrderly, IsPicture}
@@ -25,7 +25,7 @@ use Rattle.perm_core.proofs.KeepsPicture.LiveTrees.{Premises, keeps-goes}
 use Rattle.perm_core.proofs.KeepsPicture.NewNames.{gives-fewer, makes-new, after-none}
 use Rattle.perm_core.proofs.KeepsPicture.RightCode.{keeps-right}
 use Rattle.perm_core.proofs.KeepsPicture.Sides.{SidesFit, keeps-sides}
-use Rattle.perm_core.proofs.KeepsPicture.TreeEvents.{EventAt, IsTold, IsStep, is-step, step-event}
+use Rattle.perm_core.proofs.KeepsPicture.TreeEvents.{EventAt, IsTold, IsStep, step-event}
 
 -- ---------- answers ----------
 found-answers : (v : Option (Value Name)) (x : Held) → found v ≡ Found x → (a : Value Name) × (x ≡ Some a)
@@ -49,9 +49,9 @@ unrefused : (fits : ℕ → Bool) (by : Mark) (shape : Shape) (n : ℕ) (h : Hea
 unrefused fits by shape n h e room = let z = sym (ap (λ t. cond t (Found (Some (Reference (next_name by) (length_of shape n)))) Refused) room) ∙ e in let no : ⊥ = cc z in no
 
 module _ (u : UnitCode) (limit : ℕ) where
-  -- ---------- the claim ----------
-  orderly : (labels : Labels) (s t : State) (w : Way) → IsChecked u → IsPicture u labels s → IsStep u limit s t w → IsOrderly u t
-  orderly labels s t w checked picture e = record {
+  -- ---------- the next state ----------
+  pub next-orderly : (labels : Labels) (s t : State) (w : Way) → IsChecked u → IsPicture u labels s → IsStep u limit s t w → IsOrderly u t
+  next-orderly labels s t w checked picture e = record {
     goes = on (keeps-goes u labels s.heap.objects checked.accepted e.op e.told told-answers ByReturn [] (λ w. w) (Base Here 0) is.goes.0 w s.task t.task premises is.goes.1 event);
     ends = keeps-ends u checked.whole e.op e.told ByReturn w s.task t.task is.ends event;
     right = keeps-right u checked.whole e.op e.told w s.task t.task is.right event;
@@ -91,6 +91,3 @@ module _ (u : UnitCode) (limit : ℕ) where
       new n may (inr (p, f)) =
           after-none u (within limit) e.op s.heap n (is.new n (gives-fewer u e.op e.told w s.task t.task n event may))
           (λ by shape k q room names. unrefused (within limit) by shape k s.heap (subst (λ (o : Op). find (within limit) o s.heap ≡ Refused) q f) room)
-
-  pub keeps_order : KeepsOrder u limit
-  keeps_order labels s t w checked picture e = orderly labels s t w checked picture (is-step u limit s t w e)

@@ -1,29 +1,25 @@
--- Variables and objects fit the next picture after each event, where they do after the turns that begin a call.
-use Rattle.std.proofs.Common.{◌≡◌, ℕ, Bool, false, refl, Option, Some, List, ◌∷◌, sym, subst, inl, inr}
+-- Each event leads from a state with a picture to one with the next picture.
+use Rattle.std.proofs.Common.{◌≡◌, ℕ, false, refl, Option, Some, List, sym, subst, inl, inr}
 use Rattle.perm_tree.specs.declared.ast.Span.{Span}
-use Rattle.perm_tree.specs.Code.{Instruction, Declare, Invoke, Print, Tie, Argument, Routine, Code, Do, If, While, Recover, UnitCode}
+use Rattle.perm_tree.specs.Code.{Instruction, Declare, Print, Code, Do, If, While, Recover, UnitCode}
 use Rattle.perm_tree.specs.Vars.{Vars}
 use Rattle.perm_meaning.specs.Names.{Mark}
-use Rattle.perm_meaning.specs.Expressions.{tagged}
-use Rattle.perm_meaning.specs.Effects.{Tick, first_vars}
-use Rattle.perm_meaning.specs.Custody.{Moves, while_called, lent_by}
-use Rattle.perm_meaning.specs.Machine.{Frame, OpenCall, Close, Leaf, Fork, Way, Here, Did, On}
+use Rattle.perm_meaning.specs.Machine.{Frame, Close, Leaf, Fork, Way, Here, Did, On}
 use Rattle.perm_meaning.specs.NamedHeap.{Held, Heap, Op, Own, Task, find}
 use Rattle.perm_meaning.specs.Steps.{Found, within}
 use Rattle.perm_core.specs.Core.{look}
-use Rattle.perm_core.specs.Claims.{IsChecked}
+use Rattle.perm_core.specs.Claims.{KeepsPicture}
 use Rattle.perm_core.specs.Endings.{Ending}
 use Rattle.perm_core.specs.Whole.{IsWhole}
 use Rattle.perm_core.specs.Regions.{Zone, Labels}
 use Rattle.perm_core.specs.NextPicture.{is_failing}
-use Rattle.perm_core.specs.Unproved.{KeepsPicture}
 use Rattle.perm_core.proofs.KeepsPicture.JoinCases.{join-case}
 use Rattle.perm_core.proofs.KeepsPicture.CallCases.{begin-turn}
 use Rattle.perm_core.proofs.KeepsPicture.LeafCases.{branch, LeafWith, TurnOf, assign-turn, read-turn, write-turn, create-turn, part-turn, give-turn, return-turn}
-use Rattle.perm_core.proofs.KeepsPicture.LeafTurns.{Acts, declares, assigns, loads, measures, reads, takes, stores, writes, prints, Stays, Begins, Goes_in, TurnTo, dying, ending, acting, making, beginning, left_block, right_block, into_loop, out_of_loop, parting, recovering, giving, returning}
+use Rattle.perm_core.proofs.KeepsPicture.LeafTurns.{Acts, declares, assigns, loads, measures, reads, takes, stores, writes, prints, Stays, TurnTo, dying, ending, acting, making, beginning, left_block, right_block, into_loop, out_of_loop, parting, recovering, giving, returning}
 use Rattle.perm_core.proofs.KeepsPicture.NextLabels.{leaf-next, refused-next, join-next}
 use Rattle.perm_core.proofs.KeepsPicture.NodePremises.{NodeFits}
-use Rattle.perm_core.proofs.KeepsPicture.Order.{keeps_order}
+use Rattle.perm_core.proofs.KeepsPicture.Order.{next-orderly}
 use Rattle.perm_core.proofs.KeepsPicture.PlainTurns.{plain-fits}
 use Rattle.perm_core.proofs.KeepsPicture.TreeEvents.{IsTold, is-step}
 use Rattle.perm_core.proofs.KeepsPicture.WholeTrees.{IsNext, whole-next}
@@ -103,4 +99,4 @@ module _ (u : UnitCode) (limit : ℕ) where
   keeps-picture labels s t w checked picture e =
       let is = is-step u limit s t w e in
       let all = whole-next u limit labels s t w picture is (node-next checked.whole labels s.heap is.op is.told is.answer) in
-      record { variables = all.0; objects = all.1; orderly = keeps_order u limit labels s t w checked picture e }
+      record { variables = all.0; objects = all.1; orderly = next-orderly u limit labels s t w checked picture is }
