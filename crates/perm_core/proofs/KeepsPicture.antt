@@ -29,7 +29,6 @@ pub mod CallArguments
 pub mod CallBeginnings
 pub mod RightCalls
 pub mod CallTurns
-pub mod JoinTurns
 pub mod Relabellings
 pub mod CarriedValues
 pub mod CallEnds

@@ -7,7 +7,7 @@ use Rattle.perm_rules.specs.declared.ParMode.{ParMode}
 use Rattle.perm_rules.specs.declared.ParMode.TheVariants.{Symmetric, LeftAlone, RightAlone}
 use Rattle.perm_meaning.specs.Objects.{Objects}
 use Rattle.perm_meaning.specs.Names.{Name}
-use Rattle.perm_meaning.specs.Machine.{Frame, OpenBlock, OpenRecover, OpenCall, Blocks, Close, Leaf, Fork, Way, Here, GoL, GoR}
+use Rattle.perm_meaning.specs.Machine.{Frame, OpenBlock, OpenRecover, OpenCall, Close, Leaf, Fork, Way, Here, GoL, GoR}
 use Rattle.perm_meaning.specs.NamedHeap.{Held, Branch, Task}
 use Rattle.perm_meaning.proofs.SameName.{together}
 use Rattle.perm_core.specs.Regions.{Zone, Base, Under, Region, OwnOf, OfVariable, Labels, calls, zones, top_zone, left_zone, right_zone}
@@ -78,38 +78,3 @@ module _ (u : UnitCode) (labels : Labels) (h : Objects Name) (ρ : Region → Re
       (together left' right'
       (tree-carry l (λ w. at (GoL w)) (left_zone m (at (GoL Here)) top) (record { vars = λ w. alone.vars (GoL w); base = λ w. alone.base (GoL w); under = λ w. alone.under (GoL w) }) (left-keeps m (at (GoL Here)) top keeps (alone.base (GoL Here)) (alone.under (GoL Here))) y.0)
       (tree-carry r (λ w. at (GoR w)) (right_zone m (at (GoR Here)) top) (record { vars = λ w. alone.vars (GoR w); base = λ w. alone.base (GoR w); under = λ w. alone.under (GoR w) }) (right-keeps m (at (GoR Here)) top keeps (alone.base (GoR Here)) (alone.under (GoR Here))) y.1))
-
-  -- an event on the left side of a par
-  pub lift-left : (b : Branch) (p : Blocks) (l l' r : Task) (at : Way → Way) (z : Zone) → ((i x : ℕ) → ρ (OfVariable (at Here) i x) ≡ OfVariable (at Here) i x) → ((i : ℕ) → P (Base (at Here) i)) → P z
-      → IsAside (λ w. at (GoR w)) → tree_fits u labels h at z (Fork b p l r) ≡ true
-      → tree_fits u after h (λ w. at (GoL w)) (left_zone (mode_in u b.own.routine p) (at (GoL Here)) (top_zone (at Here) z b.stack)) l' ≡ true
-      → tree_fits u after h at z (Fork b p l' r) ≡ true
-  lift-left b p l l' r at z vars base start alone e new =
-      let top = top_zone (at Here) z b.stack in
-      let m = mode_in u b.own.routine p in
-      let left = tree_fits u labels h (λ w. at (GoL w)) (left_zone m (at (GoL Here)) top) l in
-      let right = tree_fits u labels h (λ w. at (GoR w)) (right_zone m (at (GoR Here)) top) r in
-      let left' = tree_fits u after h (λ w. at (GoL w)) (left_zone m (at (GoL Here)) top) l' in
-      let right' = tree_fits u after h (λ w. at (GoR w)) (right_zone m (at (GoR Here)) top) r in
-      let x = and_parts (branch_fits u labels h (at Here) z b) (left && right) e in
-      together (branch_fits u after h (at Here) z b) (left' && right') (branch-carry (at Here) z b vars start base x.0)
-      (together left' right' new
-      (tree-carry r (λ w. at (GoR w)) (right_zone m (at (GoR Here)) top) alone (right-keeps m (at (GoR Here)) top (top-keeps (at Here) z b.stack start base) (alone.base Here) (alone.under Here)) (and_parts left right x.1).1))
-
-  -- and on the right
-  pub lift-right : (b : Branch) (p : Blocks) (l r r' : Task) (at : Way → Way) (z : Zone) → ((i x : ℕ) → ρ (OfVariable (at Here) i x) ≡ OfVariable (at Here) i x) → ((i : ℕ) → P (Base (at Here) i)) → P z
-      → IsAside (λ w. at (GoL w)) → tree_fits u labels h at z (Fork b p l r) ≡ true
-      → tree_fits u after h (λ w. at (GoR w)) (right_zone (mode_in u b.own.routine p) (at (GoR Here)) (top_zone (at Here) z b.stack)) r' ≡ true
-      → tree_fits u after h at z (Fork b p l r') ≡ true
-  lift-right b p l r r' at z vars base start alone e new =
-      let top = top_zone (at Here) z b.stack in
-      let m = mode_in u b.own.routine p in
-      let left = tree_fits u labels h (λ w. at (GoL w)) (left_zone m (at (GoL Here)) top) l in
-      let right = tree_fits u labels h (λ w. at (GoR w)) (right_zone m (at (GoR Here)) top) r in
-      let left' = tree_fits u after h (λ w. at (GoL w)) (left_zone m (at (GoL Here)) top) l in
-      let right' = tree_fits u after h (λ w. at (GoR w)) (right_zone m (at (GoR Here)) top) r' in
-      let x = and_parts (branch_fits u labels h (at Here) z b) (left && right) e in
-      together (branch_fits u after h (at Here) z b) (left' && right') (branch-carry (at Here) z b vars start base x.0)
-      (together left' right'
-      (tree-carry l (λ w. at (GoL w)) (left_zone m (at (GoL Here)) top) alone (left-keeps m (at (GoL Here)) top (top-keeps (at Here) z b.stack start base) (alone.base Here) (alone.under Here)) (and_parts left right x.1).0)
-      new)

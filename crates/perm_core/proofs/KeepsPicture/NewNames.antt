@@ -18,10 +18,6 @@ use Rattle.perm_core.proofs.KeepsPicture.TreeEvents.{EventAt, refused_leaf, told
 use Rattle.perm_core.proofs.KeepsPicture.Sides.{settled-path}
 
 -- ---------- marks ----------
--- a branch may give the name of its next object
-pub may-next : (m : Mark) → MayGive m (next_name m)
-may-next m = next m.made (le_refl m.made)
-
 -- a branch that has made one object more, or begun one par more, may give fewer names
 object-fewer : (m : Mark) (n : Name) → MayGive (after_object m) n → MayGive m n
 object-fewer m _ (next c more) = next c (omega arith)
