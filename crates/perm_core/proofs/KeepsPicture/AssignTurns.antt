@@ -2,10 +2,8 @@
 use Rattle.std.proofs.Common.{◌≡◌, ℕ, ◌<◌, Bool, true, false, Some, List, [], ◌∷◌, refl, sym, ap, subst, ◌∙◌, arith, le_refl, inl, inr}
 use Rattle.std.specs.Prelude.{◌⊎◌, ◌&&◌, ◌||◌, nat_eq, cond, slice_get}
 use Rattle.std.proofs.lemmas.Bool.Decides.{nat_tests}
-use Rattle.perm_tree.specs.declared.ast.Perm.TheVariants.{Isolated, Immutable, Readable, Writable}
 use Rattle.perm_tree.specs.declared.ast.Span.{Span}
 use Rattle.perm_tree.specs.declared.ast.Ty.{Ty}
-use Rattle.perm_tree.specs.declared.ast.Ty.TheVariants.{Long, Bool as Boolean, Ref}
 use Rattle.perm_tree.specs.declared.errors.TypeKind.TheVariants.{WrongKind, Gone, NeedsConsume, PermissionTooWeak}
 use Rattle.perm_tree.specs.Code.{Argument, Expression, Consumed, Assign, Code, Do, UnitCode}
 use Rattle.perm_tree.specs.Mentions.{any_in_argument, mentions}
@@ -28,7 +26,7 @@ use Rattle.perm_core.specs.Regions.{Zone, Region, OwnOf, OfVariable, OfField, La
 use Rattle.perm_core.specs.Picture.{context_of, value_fits, variables_fit, stack_fits, tree_fits, object_fits, valued, hidden_above, context_above, RestGoes, stack_hidden}
 use Rattle.perm_core.specs.NextPicture.{Moves, moved, goal_of, goal_at, consumed_moves}
 use Rattle.perm_core.proofs.KeepsPicture.Arguments.{get-some, Comes, argument-comes}
-use Rattle.perm_core.proofs.KeepsPicture.CallEnds.{StartsLow, set-cases, set-length, stack-stays}
+use Rattle.perm_core.proofs.KeepsPicture.CallEnds.{StartsLow, set-cases, set-length, stack-stays, goal-there}
 use Rattle.perm_core.proofs.KeepsPicture.CarriedValues.{AllFit, to-all, from-all, one-carry, stack-carry}
 use Rattle.perm_core.proofs.KeepsPicture.Gives.{clear-cases}
 use Rattle.perm_core.proofs.KeepsPicture.HiddenVariables.{top-goes, statement-shown}
@@ -36,15 +34,6 @@ use Rattle.perm_core.proofs.KeepsPicture.LeafTurns.{Gives_one, plain_one, consum
 use Rattle.perm_core.proofs.KeepsPicture.LiveLists.{one-length}
 use Rattle.perm_core.proofs.KeepsPicture.PlainTurns.{on-fits}
 use Rattle.perm_core.proofs.KeepsPicture.Relabellings.{Good, good-none, good-moves, of_variable, FieldsStay, object-carry}
-
--- where a value comes to is a region
-pub goal-there : (t : Ty) (e : Region) (z : Zone) → is_absent e ≡ false → is_absent (goal_of (Some t) e (OwnOf z)) ≡ false
-goal-there Long e z q = refl
-goal-there Boolean e z q = refl
-goal-there (Ref Isolated s) e z q = q
-goal-there (Ref Immutable s) e z q = refl
-goal-there (Ref Readable s) e z q = refl
-goal-there (Ref Writable s) e z q = refl
 
 -- ---------- what a consumed argument moves ----------
 module _ (u : UnitCode) (labels : Labels) (h : Objects Name) (c : Context) (w : Way) (k : ℕ) (to : Region) (there : is_absent to ≡ false) where
@@ -130,7 +119,7 @@ module _ (u : UnitCode) (labels : Labels) (h : Objects Name) (at : Way → Way) 
   to = goal_at c (at Here) z st x
 
   to-there : is_absent to ≡ false
-  to-there = ap (λ o. is_absent (goal_of o (OfVariable (at Here) (calls st) x) (OwnOf (top_zone (at Here) z st)))) type.1 ∙ goal-there type.0 (OfVariable (at Here) (calls st) x) (top_zone (at Here) z st) refl
+  to-there = goal-there (type_of c x) (OfVariable (at Here) (calls st) x) (OwnOf (top_zone (at Here) z st)) refl refl
 
   home : to ≡ goal_of (Some type.0) (OfVariable (at Here) (calls st) x) (OwnOf (top_zone (at Here) z st))
   home = ap (λ o. goal_of o (OfVariable (at Here) (calls st) x) (OwnOf (top_zone (at Here) z st))) type.1

@@ -1,5 +1,5 @@
 -- The end of a call keeps what its caller's variables lead to, whatever its tie.
-use Rattle.std.proofs.Common.{◌≡◌, ℕ, zero, suc, ◌<◌, ◌≤◌, Bool, true, false, Some, List, [], ◌∷◌, ◌++◌, length, refl, sym, ap, subst, ◌∙◌, inl, inr, arith}
+use Rattle.std.proofs.Common.{◌≡◌, ℕ, zero, suc, ◌<◌, ◌≤◌, Bool, true, false, Option, Some, None, List, [], ◌∷◌, ◌++◌, length, refl, sym, ap, subst, ◌∙◌, inl, inr, arith}
 use Rattle.std.specs.Prelude.{◌⊎◌, ◌&&◌, ◌||◌, not, nat_eq, cond, slice_get, slice_set}
 use Rattle.std.specs.List.{list_any}
 use Rattle.std.proofs.lemmas.Bool.{or_cases, or_left, or_right, and_parts}
@@ -8,12 +8,14 @@ use Rattle.std.proofs.Math.Bool.{and-false}
 use Rattle.perm_tree.specs.declared.ast.Perm.{Perm}
 use Rattle.perm_tree.specs.declared.ast.Perm.TheVariants.{Isolated, Immutable, Readable, Writable}
 use Rattle.perm_tree.specs.declared.ast.Shape.{Shape}
-use Rattle.perm_tree.specs.declared.ast.Ty.TheVariants.{Ref}
+use Rattle.perm_tree.specs.declared.ast.Ty.{Ty}
+use Rattle.perm_tree.specs.declared.ast.Ty.TheVariants.{Long, Bool as Boolean, Ref}
 use Rattle.perm_tree.specs.Code.{Code, UnitCode, Tie, Shares, Raises, Lends}
 use Rattle.perm_tree.specs.CodeOf.{is_tied}
 use Rattle.perm_tree.specs.Vars.{Vars, those, minus, some_below}
 use Rattle.perm_perm.specs.Adaptation.{raised}
 use Rattle.perm_perm.specs.Order.{is_at_most}
+use Rattle.perm_rules.specs.Parts.{Context, type_of}
 use Rattle.perm_meaning.specs.Values.{Value}
 use Rattle.perm_meaning.specs.Names.{Name}
 use Rattle.perm_meaning.specs.Objects.{Objects}
@@ -21,9 +23,9 @@ use Rattle.perm_meaning.specs.Machine.{Frame, OpenBlock, OpenRecover, OpenCall, 
 use Rattle.perm_meaning.specs.NamedHeap.{Held}
 use Rattle.perm_meaning.proofs.SameName.{together, eq_true, eq_itself}
 use Rattle.perm_meaning.proofs.Leads.{some_inj, none_some}
-use Rattle.perm_core.specs.Regions.{Zone, Base, Region, Frozen, OwnOf, OfVariable, Loose, Labels, same_way, is_frozen, may_read, var_may_lead, begins_zone, calls, zones, top_zone}
+use Rattle.perm_core.specs.Regions.{Zone, Base, Region, Frozen, OwnOf, OfVariable, Loose, Labels, same_way, is_frozen, is_absent, may_read, var_may_lead, begins_zone, calls, zones, top_zone}
 use Rattle.perm_core.specs.Picture.{hidden_above, has_value, valued, only_valued, none_valued, stack_hidden}
-use Rattle.perm_core.specs.NextPicture.{Ends, renamed, is_rooted, goal, ended_to}
+use Rattle.perm_core.specs.NextPicture.{Ends, renamed, is_rooted, goal, goal_of, goal_into, ended_to}
 use Rattle.perm_core.proofs.LeadsTo.{frozen-true}
 use Rattle.perm_core.proofs.KeepsPicture.Relabellings.{Good, Sees, frozen, within, across, sees, visible, region-same, region-true, own-inj, way-same}
 use Rattle.perm_core.proofs.KeepsPicture.CarriedValues.{LentStays, StackStays}
@@ -159,6 +161,20 @@ module _ (u : UnitCode) (labels : Labels) (h : Objects Name) (ρ : Region → Re
       lower i x (inr e) = let q : i ≡ calls st = e.0 in omega (arith, q)
 
 -- ---------- permissions ----------
+-- where a value goes is a region
+pub goal-there : (o : Option Ty) (entry home : Region) → is_absent entry ≡ false → is_absent home ≡ false → is_absent (goal_of o entry home) ≡ false
+goal-there None entry home e h = refl
+goal-there (Some Long) entry home e h = refl
+goal-there (Some Boolean) entry home e h = refl
+goal-there (Some (Ref Isolated s)) entry home e h = e
+goal-there (Some (Ref Writable s)) entry home e h = h
+goal-there (Some (Ref Readable s)) entry home e h = h
+goal-there (Some (Ref Immutable s)) entry home e h = refl
+
+pub into-there : (c : Context) (w : Way) (z : Zone) (st : List (Frame Held)) (into : Option ℕ) → is_absent (goal_into c w z st into) ≡ false
+into-there c w z st None = refl
+into-there c w z st (Some x) = goal-there (type_of c x) (OfVariable w (calls st) x) (OwnOf (top_zone w z st)) refl refl
+
 -- where an isolated value goes fits what it comes into
 pub goal-leads : (q : Perm) (e : Region) (z : Zone) → var_may_lead q e z (goal q e (OwnOf z)) ≡ true
 goal-leads Isolated e z = region-same e

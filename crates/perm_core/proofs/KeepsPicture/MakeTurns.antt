@@ -34,8 +34,7 @@ use Rattle.perm_core.specs.Regions.{Zone, Region, OwnOf, OfVariable, OfField, La
 use Rattle.perm_core.specs.Picture.{context_of, has_shape, value_fits, variables_fit, stack_fits, tree_fits, fields_fit, is_number, class_fits, values_fit, object_fits, valued, context_above, RestGoes}
 use Rattle.perm_core.specs.NextPicture.{label_new, goal_of, goal_at}
 use Rattle.perm_core.proofs.KeepsPicture.Arguments.{get-some}
-use Rattle.perm_core.proofs.KeepsPicture.AssignTurns.{goal-there}
-use Rattle.perm_core.proofs.KeepsPicture.CallEnds.{set-cases, set-length, goal-leads}
+use Rattle.perm_core.proofs.KeepsPicture.CallEnds.{set-cases, set-length, goal-there, goal-leads}
 use Rattle.perm_core.proofs.KeepsPicture.CarriedValues.{AllFit, to-all, from-all}
 use Rattle.perm_core.proofs.KeepsPicture.HiddenVariables.{top-goes}
 use Rattle.perm_core.proofs.KeepsPicture.LeafTurns.{Creates, object, array}
@@ -127,7 +126,7 @@ module _ (u : UnitCode) (labels : Labels) (h : Objects Name) (at : Way → Way) 
   home = ap (λ o. goal_of o (OfVariable (at Here) (calls st) x) (OwnOf (top_zone (at Here) z st))) type.1
 
   to-there : is_absent to ≡ false
-  to-there = ap (λ r. is_absent r) home ∙ goal-there type.0 (OfVariable (at Here) (calls st) x) (top_zone (at Here) z st) refl
+  to-there = goal-there (type_of c x) (OfVariable (at Here) (calls st) x) (OwnOf (top_zone (at Here) z st)) refl refl
 
   made-name : made name ≡ to
   made-name = ap (λ t. cond t to (labels name)) (name_itself name)

@@ -24,32 +24,19 @@ use Rattle.perm_core.specs.Regions.{Zone, Base, Under, Region, Frozen, OwnOf, Of
 use Rattle.perm_core.specs.Picture.{context_of, mode_in, has_shape, value_fits, values_fit, object_fits}
 use Rattle.perm_core.specs.NextPicture.{Moves, Ends, moving, no_change, goal_of, goal_at, goal_into, consumed_moves, arguments_moves, zone_of_call, receiver_moves, call_moves, perm_of, ended_to, tie_moves, region_of, field_region, is_immutable, instruction_change, give_moves, return_moves, isolated_among, handed, par_moves, zone_moves, join_moves, code_change}
 use Rattle.perm_core.proofs.KeepsPicture.Arguments.{get-some}
-use Rattle.perm_core.proofs.KeepsPicture.CallEnds.{get-less}
+use Rattle.perm_core.proofs.KeepsPicture.CallEnds.{goal-there, into-there, get-less}
 use Rattle.perm_core.proofs.KeepsPicture.CarriedValues.{to-all}
 use Rattle.perm_core.proofs.KeepsPicture.Joins.{Avoids, under-joins, base-joins}
 use Rattle.perm_core.proofs.KeepsPicture.LocalChanges.{of_own, of_object, of_none, ending_at, joining_at, AllLocal, nothing, one-local, also, both-local, IsLocalChange, no-local}
 use Rattle.perm_core.proofs.KeepsPicture.NodePremises.{LeafFits, ForkAvoids}
 
 -- ---------- where values go ----------
-pub goal-is : (o : Option Ty) (entry home : Region) → is_absent entry ≡ false → is_absent home ≡ false → is_absent (goal_of o entry home) ≡ false
-goal-is None entry home e h = refl
-goal-is (Some Long) entry home e h = refl
-goal-is (Some Boolean) entry home e h = refl
-goal-is (Some (Ref Isolated s)) entry home e h = e
-goal-is (Some (Ref Writable s)) entry home e h = h
-goal-is (Some (Ref Readable s)) entry home e h = h
-goal-is (Some (Ref Immutable s)) entry home e h = refl
-
 ended-is : (p : Option Perm) (to : Region) → is_absent to ≡ false → is_absent (ended_to p to) ≡ false
 ended-is None to e = refl
 ended-is (Some Readable) to e = refl
 ended-is (Some Writable) to e = e
 ended-is (Some Isolated) to e = refl
 ended-is (Some Immutable) to e = refl
-
-into-is : (c : Context) (w : Way) (z : Zone) (st : List (Frame Held)) (into : Option ℕ) → is_absent (goal_into c w z st into) ≡ false
-into-is c w z st None = refl
-into-is c w z st (Some x) = goal-is (type_of c x) (OfVariable w (calls st) x) (OwnOf (top_zone w z st)) refl refl
 
 module _ (at : Way → Way) where
   -- ---------- arguments and calls ----------
@@ -66,7 +53,7 @@ module _ (at : Way → Way) where
   arguments-local c k x (a ∷ rest) [] z = nothing
   arguments-local c k x (a ∷ rest) (t ∷ ts) z =
       let to = goal_of (Some t) (OfVariable (at Here) (suc k) x) (OwnOf z) in
-      both-local at (consumed_moves c (at Here) k a to) (arguments_moves c (at Here) k (suc x) rest ts z) (consumed-local c k a to (goal-is (Some t) (OfVariable (at Here) (suc k) x) (OwnOf z) refl refl))
+      both-local at (consumed_moves c (at Here) k a to) (arguments_moves c (at Here) k (suc x) rest ts z) (consumed-local c k a to (goal-there (Some t) (OfVariable (at Here) (suc k) x) (OwnOf z) refl refl))
       (arguments-local c k (suc x) rest ts z)
 
   receiver-local : (c : Context) (k : ℕ) (tie : Tie) (consumed : Bool) (y : ℕ) (r : Perm) (z : Zone) → AllLocal at (receiver_moves c (at Here) k tie consumed y r z)
@@ -95,7 +82,7 @@ module _ (at : Way → Way) where
     give-local c z v x [] = nothing
     give-local c z v x (f ∷ st) =
         let to = goal_at c (at Here) z st x in
-        let there = goal-is (type_of c x) (OfVariable (at Here) (calls st) x) (OwnOf (top_zone (at Here) z st)) refl refl in
+        let there = goal-there (type_of c x) (OfVariable (at Here) (calls st) x) (OwnOf (top_zone (at Here) z st)) refl refl in
         let ends = Ends (at Here) (suc (zones st)) (ended_to (perm_of (type_of c v)) to) in
         both-local at (consumed_moves c (at Here) (calls st) (Consumed v) to) (ends ∷ []) (consumed-local c (calls st) (Consumed v) to there)
         (one-local at ends (ending_at Here (suc (zones st)) (ended_to (perm_of (type_of c v)) to) (ended-is (perm_of (type_of c v)) to there)))
@@ -114,9 +101,9 @@ module _ (at : Way → Way) where
     return-local c z a (OpenCall tie into y saved lent caller rest ∷ st) =
         let from = top_zone (at Here) z (OpenCall tie into y saved lent caller rest ∷ st) in
         let to = goal_into (context_of u caller) (at Here) z st into in
-        let there = into-is (context_of u caller) (at Here) z st into in
+        let there = into-there (context_of u caller) (at Here) z st into in
         both-local at (consumed_moves c (at Here) (suc (calls st)) a (goal_of (Some c.result) to (OwnOf from))) (tie_moves tie (zones st) (at Here) (calls st) y c.result to)
-        (consumed-local c (suc (calls st)) a (goal_of (Some c.result) to (OwnOf from)) (goal-is (Some c.result) to (OwnOf from) there refl)) (tie-local tie (zones st) (calls st) y c.result to there)
+        (consumed-local c (suc (calls st)) a (goal_of (Some c.result) to (OwnOf from)) (goal-there (Some c.result) to (OwnOf from) there refl)) (tie-local tie (zones st) (calls st) y c.result to there)
 
     -- ---------- pars ----------
     handed-local : (w : Way) (k : ℕ) (v : Way) (j : ℕ) (xs : List ℕ) → AllLocal at (handed u labels (at w) k v j xs)
@@ -201,7 +188,7 @@ module _ (at : Way → Way) where
           go (Some (Some (Reference r n))) = one-local at (Moves (OfField r f) to) (of_object r f to there)
 
       into-local : (x : ℕ) → is_absent (goal_at c (at Here) z b.stack x) ≡ false
-      into-local x = goal-is (type_of c x) (OfVariable (at Here) (calls b.stack) x) (OwnOf (top_zone (at Here) z b.stack)) refl refl
+      into-local x = goal-there (type_of c x) (OfVariable (at Here) (calls b.stack) x) (OwnOf (top_zone (at Here) z b.stack)) refl refl
 
       instruction-local : (i : Instruction) → IsLocalChange at heap.objects (instruction_change u labels c (at Here) z b i)
       instruction-local (Declare x) = no-local at heap.objects
@@ -219,7 +206,7 @@ module _ (at : Way → Way) where
       instruction-local (NewArray x n) = record { moves = nothing; new = leaf.new }
       instruction-local (StoreField y f a) =
           let to = goal_of (field_in c.classes (type_of c y) f) (field_region u labels (slice_get b.own.vars y) f) (region_of u labels (slice_get b.own.vars y)) in
-          record { moves = consumed-local c (calls b.stack) a to (goal-is (field_in c.classes (type_of c y) f) (field_region u labels (slice_get b.own.vars y) f) (region_of u labels (slice_get b.own.vars y)) (field-is y f) (region-is y)); new = tt }
+          record { moves = consumed-local c (calls b.stack) a to (goal-there (field_in c.classes (type_of c y) f) (field_region u labels (slice_get b.own.vars y) f) (region_of u labels (slice_get b.own.vars y)) (field-is y f) (region-is y)); new = tt }
       instruction-local (StoreItem y i e) = no-local at heap.objects
       instruction-local (Invoke into tie consumed y m args) = record { moves = call-local c z b.stack tie consumed y args (slice_get u.routines m); new = tt }
       instruction-local (Print e) = no-local at heap.objects

@@ -1,9 +1,8 @@
 -- A call returns: the caller and the objects fit after it, however the call was tied.
-use Rattle.std.proofs.Common.{◌≡◌, ℕ, suc, ◌<◌, Bool, true, false, Option, Some, None, List, ◌∷◌, refl, sym, ap, subst, ◌∙◌, le_refl, inl, inr}
+use Rattle.std.proofs.Common.{◌≡◌, ℕ, suc, ◌<◌, Bool, true, false, Option, Some, List, ◌∷◌, refl, sym, ap, subst, ◌∙◌, le_refl, inl, inr}
 use Rattle.std.specs.Prelude.{◌⊎◌, ◌&&◌, slice_get}
 use Rattle.std.proofs.lemmas.Bool.{and_parts}
 use Rattle.perm_tree.specs.declared.ast.Span.{Span}
-use Rattle.perm_tree.specs.declared.ast.Ty.{Ty}
 use Rattle.perm_tree.specs.declared.errors.TypeKind.TheVariants.{WrongKind, Gone, NeedsConsume, PermissionTooWeak}
 use Rattle.perm_tree.specs.Code.{Tie, Shares, Raises, Lends, Argument, Expression, Consumed, Code, Return, UnitCode}
 use Rattle.perm_tree.specs.Vars.{Vars, those, plus}
@@ -24,8 +23,8 @@ use Rattle.perm_core.specs.Picture.{context_of, value_fits, variables_fit, lent_
 use Rattle.perm_core.specs.NextPicture.{moved, goal_of, goal_into, consumed_moves, tie_moves, return_moves}
 use Rattle.perm_core.proofs.LeafOperations.{looked-up}
 use Rattle.perm_core.proofs.KeepsPicture.Arguments.{Comes, argument-comes}
-use Rattle.perm_core.proofs.KeepsPicture.AssignTurns.{goal-there, moves, moves-good, moves-own, moves-lower, moves-fields}
-use Rattle.perm_core.proofs.KeepsPicture.CallEnds.{StartsLow, stack-stays}
+use Rattle.perm_core.proofs.KeepsPicture.AssignTurns.{moves, moves-good, moves-own, moves-lower, moves-fields}
+use Rattle.perm_core.proofs.KeepsPicture.CallEnds.{StartsLow, stack-stays, goal-there, into-there}
 use Rattle.perm_core.proofs.KeepsPicture.CarriedValues.{AllFit, to-all, stack-carry}
 use Rattle.perm_core.proofs.KeepsPicture.HiddenVariables.{top-goes}
 use Rattle.perm_core.proofs.KeepsPicture.Joins.{moved-append}
@@ -64,18 +63,10 @@ module _ (u : UnitCode) (labels : Labels) (h : Objects Name) (at : Way → Way) 
   gave_back n = moved (return_moves u labels c (at Here) z a (f ∷ st)) (labels n)
 
   to-there : is_absent to ≡ false
-  to-there = go into
-    where
-      typed : (o : Option Ty) (x : ℕ) → is_absent (goal_of o (OfVariable (at Here) (calls st) x) (OwnOf (top_zone (at Here) z st))) ≡ false
-      typed None x = refl
-      typed (Some t) x = goal-there t (OfVariable (at Here) (calls st) x) (top_zone (at Here) z st) refl
-
-      go : (o : Option ℕ) → is_absent (goal_into (context_of u caller) (at Here) z st o) ≡ false
-      go None = refl
-      go (Some x) = typed (type_of (context_of u caller) x) x
+  to-there = into-there (context_of u caller) (at Here) z st into
 
   first-there : is_absent first_to ≡ false
-  first-there = goal-there c.result to from to-there
+  first-there = goal-there (Some c.result) to (OwnOf from) to-there refl
 
   -- what is consumed goes first
   abbrev ρ : Region → Region

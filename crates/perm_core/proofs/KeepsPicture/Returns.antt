@@ -30,7 +30,7 @@ use Rattle.perm_core.specs.Picture.{context_of, has_shape, value_fits, variables
 use Rattle.perm_core.specs.NextPicture.{Ends, renamed, moved, is_rooted, goal, goal_of, goal_into, perm_of, ended_to, tie_moves}
 use Rattle.perm_core.proofs.KeepsPicture.Relabellings.{Good, good-none, good-ends, is-same, region-true, FieldsStay, object-carry}
 use Rattle.perm_core.proofs.KeepsPicture.CarriedValues.{AllFit, to-all, from-all, one-carry, stack-carry}
-use Rattle.perm_core.proofs.KeepsPicture.CallEnds.{set-cases, set-length, StartsLow, top-low, stack-stays, weaker, own-outside, own-inside, raised-leads, lending-leads}
+use Rattle.perm_core.proofs.KeepsPicture.CallEnds.{set-cases, set-length, StartsLow, top-low, stack-stays, into-there, weaker, own-outside, own-inside, raised-leads, lending-leads}
 
 -- ---------- values ----------
 pub shape-true : (s t : Shape) → same_shape s t ≡ true → s ≡ t
@@ -180,21 +180,8 @@ module _ (u : UnitCode) (labels : Labels) (h : Objects Name) (w : Way) (z : Zone
     abbrev pub types : List Ty
     types = (context_of u caller).vars
 
-    goal-there : (t : Option Ty) (x : ℕ) → is_absent (goal_of t (OfVariable w k0 x) (OwnOf zout)) ≡ false
-    goal-there None x = refl
-    goal-there (Some Long) x = refl
-    goal-there (Some Boolean) x = refl
-    goal-there (Some (Ref Isolated s)) x = refl
-    goal-there (Some (Ref Immutable s)) x = refl
-    goal-there (Some (Ref Readable s)) x = refl
-    goal-there (Some (Ref Writable s)) x = refl
-
     pub to-there : is_absent to ≡ false
-    to-there = go into
-      where
-        go : (into : Option ℕ) → is_absent (goal_into (context_of u caller) w z st into) ≡ false
-        go None = refl
-        go (Some x) = goal-there (type_of (context_of u caller) x) x
+    to-there = into-there (context_of u caller) w z st into
 
     abbrev ρ : Region → Region
     ρ r = ends_by tie y t to r

@@ -33,8 +33,8 @@ use Rattle.perm_core.specs.Picture.{context_if, context_of, has_shape, value_fit
 use Rattle.perm_core.specs.NextPicture.{moved, goal_of, consumed_moves, region_of, field_region}
 use Rattle.perm_core.proofs.KeepsPicture.Arguments.{get-some, Comes, argument-comes}
 use Rattle.perm_core.proofs.KeepsPicture.Arrivals.{into-own, into-any}
-use Rattle.perm_core.proofs.KeepsPicture.AssignTurns.{goal-there, moves, moves-good, moves-own, moves-fields, moves-beside, moves-lower, one-cases}
-use Rattle.perm_core.proofs.KeepsPicture.CallEnds.{StartsLow, stack-stays}
+use Rattle.perm_core.proofs.KeepsPicture.AssignTurns.{moves, moves-good, moves-own, moves-fields, moves-beside, moves-lower, one-cases}
+use Rattle.perm_core.proofs.KeepsPicture.CallEnds.{StartsLow, stack-stays, goal-there}
 use Rattle.perm_core.proofs.KeepsPicture.CarriedValues.{AllFit, to-all, from-all, one-carry, stack-carry}
 use Rattle.perm_core.proofs.KeepsPicture.HiddenVariables.{top-goes, statement-shown}
 use Rattle.perm_core.proofs.KeepsPicture.LeafTurns.{Gives_one}
@@ -157,7 +157,7 @@ module _ (u : UnitCode) (labels : Labels) (heap : Heap) (at : Way → Way) (z : 
       ∙ (ap (λ o. goal_of o (OfField r f) (labels r)) ts.field ∙ goal-home ts.p ts.k ts.t (OfVariable (at Here) k y) (OfField r f) (labels r) top ts.may receiver.1))
 
   to-there : is_absent to ≡ false
-  to-there = ap (λ g. is_absent g) home ∙ goal-there ts.t (OfField r f) top refl
+  to-there = ap (λ g. is_absent g) home ∙ goal-there (Some ts.t) (OfField r f) (OwnOf top) refl refl
 
   abbrev ρ : Region → Region
   ρ = moves u labels h c (at Here) k to to-there a

@@ -37,8 +37,7 @@ use Rattle.perm_core.specs.Picture.{context_of, has_shape, value_fits, variables
 use Rattle.perm_core.specs.NextPicture.{Moves, renamed, moved, goal, goal_of, goal_at, field_region}
 use Rattle.perm_core.proofs.LeadsTo.{own-true, variable-true}
 use Rattle.perm_core.proofs.Unstuck.{there, object-type}
-use Rattle.perm_core.proofs.KeepsPicture.AssignTurns.{goal-there}
-use Rattle.perm_core.proofs.KeepsPicture.CallEnds.{set-cases, set-length, goal-leads}
+use Rattle.perm_core.proofs.KeepsPicture.CallEnds.{set-cases, set-length, goal-there, goal-leads}
 use Rattle.perm_core.proofs.KeepsPicture.CarriedValues.{to-all}
 use Rattle.perm_core.proofs.KeepsPicture.FieldMoves.{MovesFields, variables-after, stack-after}
 use Rattle.perm_core.proofs.KeepsPicture.FieldValues.{same-classes, Fits, FieldsFit, fields-each, each-fields, IsOfClass, of-class}
@@ -160,7 +159,7 @@ module _ (u : UnitCode) (labels : Labels) (h : Objects Name) (at : Way → Way) 
   ρ a = renamed (Moves (OfField r f) to) a
 
   good : Good ρ
-  good = good-moves (OfField r f) to (of_field r f) (goal-there (Ref ts.q ts.s) (OfVariable (at Here) (calls st) x) zone refl)
+  good = good-moves (OfField r f) to (of_field r f) (goal-there (Some (Ref ts.q ts.s)) (OfVariable (at Here) (calls st) x) (OwnOf zone) refl refl)
 
   taken-so : labels-taken ≡ (λ n. ρ (labels n))
   taken-so e n = same e
