@@ -7,11 +7,11 @@ use Rattle.perm_tree.specs.declared.ast.Span.{Span}
 use Rattle.perm_tree.specs.Code.{Term, Instruction, Declare, Assign, LoadField, LoadLength, LoadItem, TakeField, NewObject, NewArray, StoreField, StoreItem, Invoke, Print, Code, End, Give, Return, Do, If, While, Par, Recover, UnitCode}
 use Rattle.perm_tree.specs.Mentions.{argument_consumes, any_in_argument, just_if, just_option, arguments_consume, consumes, assigns, mentions, written, block_writes}
 use Rattle.perm_tree.specs.Vars.{Vars, just, below, those, plus, minus, meet, IsWithin}
-use Rattle.perm_tree.proofs.MentionLaws.{within-plus, within-minus}
+use Rattle.perm_tree.proofs.MentionLaws.{same-within, within-plus, within-minus}
 use Rattle.perm_rules.specs.Parts.{Context, Simple}
 use Rattle.perm_rules.specs.Liveness.{after}
 use Rattle.perm_rules.specs.Effects as effects
-use Rattle.perm_rules.specs.Effects.{changed, instruction_effect, effect, block_effect}
+use Rattle.perm_rules.specs.Effects.{instruction_effect, effect, block_effect}
 use Rattle.perm_rules.specs.Goes.{Goes, GoesRound}
 use Rattle.perm_rules.proofs.PartLaws.{part-known}
 use Rattle.perm_rules.proofs.Effects.{goes-from-more}
@@ -100,18 +100,11 @@ made-written (Recover at z own hides body rest) x e =
     or_right (just z x) (plus (block_writes own body) (written rest) x)
     (then-made (block_effect own body) (block_writes own body) (written rest) (effect rest) (block-made own body (made-written body)) (made-written rest) x e)
 
--- ---------- sets ----------
-pub same : (G : Vars) → IsWithin G G
-same G x e = e
-
-minus-part : (G H : Vars) → IsWithin (minus G H) G
-minus-part G H x e = (and_parts (G x) (not (H x)) e).0
-
 -- from the greatest part from which a `while` goes round it goes too
 round-again : (c : Context) (at : Span) (t : Term) (own : List ℕ) (body rest : Code) (G H : Vars) (goes : Goes c (While at t own body rest) G H) → Goes c (While at t own body rest) goes.0 H
 round-again c at t own body rest G H goes =
     let r = goes.1.holds in
-    (goes.0, record { holds = record { part = same goes.0; tested = r.tested; ends = r.ends; body = r.body; again = r.again }; greatest = λ K round. round.part }, goes.2)
+    (goes.0, record { holds = record { part = same-within goes.0; tested = r.tested; ends = r.ends; body = r.body; again = r.again }; greatest = λ K round. round.part }, goes.2)
 
 module _ (u : UnitCode) where
   -- ---------- stacks ----------
@@ -145,16 +138,16 @@ module _ (u : UnitCode) where
       let less : IsWithin (minus goes.0 (those own)) (valued (clear_all tagged vs own)) = λ x e. clear_all-has own vs x (subst (λ (G : Vars). minus G (those own) x ≡ true) goes.1 e) in
       let r = rest-more u below b.own.routine rest st (minus goes.0 (those own)) H (valued (clear_all tagged vs own)) less goes.2 in
       further-more r.more (settled-goes below b (clear_all tagged vs own) rest st r.ends r.goes)
-  settled-goes below b vs End [] H goes = record { ends = H; goes = inr goes; more = same H }
-  settled-goes below b vs End (OpenRecover own hides saved rest ∷ st) H goes = record { ends = H; goes = inr goes; more = same H }
-  settled-goes below b vs End (OpenCall tie into y saved lent caller rest ∷ st) H goes = record { ends = H; goes = inr goes; more = same H }
-  settled-goes below b vs (Give at w x) st H goes = record { ends = H; goes = inr goes; more = same H }
-  settled-goes below b vs (Return at a) st H goes = record { ends = H; goes = inr goes; more = same H }
-  settled-goes below b vs (Do at i rest) st H goes = record { ends = H; goes = inr goes; more = same H }
-  settled-goes below b vs (If at x own1 a own2 d rest) st H goes = record { ends = H; goes = inr goes; more = same H }
-  settled-goes below b vs (While at x own a rest) st H goes = record { ends = H; goes = inr goes; more = same H }
-  settled-goes below b vs (Par at own1 a own2 d rest) st H goes = record { ends = H; goes = inr goes; more = same H }
-  settled-goes below b vs (Recover at x own hides a rest) st H goes = record { ends = H; goes = inr goes; more = same H }
+  settled-goes below b vs End [] H goes = record { ends = H; goes = inr goes; more = same-within H }
+  settled-goes below b vs End (OpenRecover own hides saved rest ∷ st) H goes = record { ends = H; goes = inr goes; more = same-within H }
+  settled-goes below b vs End (OpenCall tie into y saved lent caller rest ∷ st) H goes = record { ends = H; goes = inr goes; more = same-within H }
+  settled-goes below b vs (Give at w x) st H goes = record { ends = H; goes = inr goes; more = same-within H }
+  settled-goes below b vs (Return at a) st H goes = record { ends = H; goes = inr goes; more = same-within H }
+  settled-goes below b vs (Do at i rest) st H goes = record { ends = H; goes = inr goes; more = same-within H }
+  settled-goes below b vs (If at x own1 a own2 d rest) st H goes = record { ends = H; goes = inr goes; more = same-within H }
+  settled-goes below b vs (While at x own a rest) st H goes = record { ends = H; goes = inr goes; more = same-within H }
+  settled-goes below b vs (Par at own1 a own2 d rest) st H goes = record { ends = H; goes = inr goes; more = same-within H }
+  settled-goes below b vs (Recover at x own hides a rest) st H goes = record { ends = H; goes = inr goes; more = same-within H }
 
   pub on-goes : (below : List ℕ) (b : Branch) (l : Own) (t m : ℕ) (vs : List Held) (c : Code) (st : List (Frame Held)) (H : Vars) → l.vars ≡ vs → l.routine ≡ m → Further (λ L. RestGoes u below m c st (valued vs) L) H
       → Further (λ L. TreeGoes u below (done (core u) b t (On l c st)) L) H

@@ -8,6 +8,7 @@ use Rattle.perm_tree.specs.Code.{Tie, Shares, Raises, Lends, Instruction, Code, 
 use Rattle.perm_tree.specs.CodeOf.{is_tied}
 use Rattle.perm_tree.specs.Mentions.{assigns, block_mentions}
 use Rattle.perm_tree.specs.Vars.{Vars, none, just, those, plus, minus, IsWithin}
+use Rattle.perm_tree.proofs.MentionLaws.{same-within}
 use Rattle.perm_perm.specs.Types.{fits}
 use Rattle.perm_rules.specs.Parts.{Context, type_of, if_both_known}
 use Rattle.perm_rules.specs.Permissions.{call_type}
@@ -34,7 +35,7 @@ use Rattle.perm_core.proofs.KeepsPicture.CallEnds.{get-less}
 use Rattle.perm_core.proofs.KeepsPicture.CarriedValues.{to-all}
 use Rattle.perm_core.proofs.KeepsPicture.GoesOfTrees.{Further, rest-more, goes-left, goes-right}
 use Rattle.perm_core.proofs.KeepsPicture.LeafTurns.{Creates, object, array, TurnTo, dying, ending, acting, making, beginning, left_block, right_block, into_loop, out_of_loop, parting, recovering, giving, returning}
-use Rattle.perm_core.proofs.KeepsPicture.LiveCode.{same, top, further-more, settled-goes, assigned-there, on-goes, do-goes, if-goes, while-goes}
+use Rattle.perm_core.proofs.KeepsPicture.LiveCode.{top, further-more, settled-goes, assigned-there, on-goes, do-goes, if-goes, while-goes}
 use Rattle.perm_core.proofs.KeepsPicture.LiveLists.{IsAnswer, assign-has, acts-has, held-has, argument-has}
 use Rattle.perm_core.proofs.KeepsPicture.LiveTurns.{call-goes, return-goes, recover-goes, give-goes, split-goes, merged-has}
 use Rattle.perm_core.proofs.KeepsPicture.RightCode.{top-right}
@@ -85,7 +86,7 @@ module _ (u : UnitCode) (labels : Labels) (h : Objects Name) where
       → variables_fit u labels h (top_zone w z st) w (calls st) 0 (context_of u b.own.routine).vars b.own.vars ≡ true → stack_fits u labels h w z b.own.routine st ≡ true → stack_ends k c st ≡ true
       → none_valued (hidden_above below st) b.own.vars ≡ true → stack_hidden below c st ≡ true → stack_right u b.own.routine c st (valued b.own.vars) ≡ true
       → RestGoes u below b.own.routine c st (valued b.own.vars) H → TurnTo u b.own x c st o d → GoesOn k (λ L. TreeGoes u below (done (core u) b t d) L) H
-  turn-goes accepted z w below k b t x _ _ _ _ H here answer vars stack ending_k hid hidden right goes (dying c st f) = inl (record { ends = H; goes = inl tt; more = same H })
+  turn-goes accepted z w below k b t x _ _ _ _ H here answer vars stack ending_k hid hidden right goes (dying c st f) = inl (record { ends = H; goes = inl tt; more = same-within H })
   turn-goes accepted z w below k b t x _ _ _ _ H here answer vars stack ending_k hid hidden right goes (ending at a v q) = inr (ending_k, (valued [], inr refl))
   turn-goes accepted z w below k b t x _ _ _ _ H here answer vars stack ending_k hid hidden right goes (acting at i rest st o vs l acts stays) =
       let m = b.own.routine in
@@ -308,7 +309,7 @@ module _ (u : UnitCode) (labels : Labels) (h : Objects Name) where
       }
 
   failed-goes : {P : Vars → Type 0} (H : Vars) → P H → Further P H
-  failed-goes H goes = record { ends = H; goes = goes; more = same H }
+  failed-goes H goes = record { ends = H; goes = goes; more = same-within H }
 
   resumed-goes : (k : Ending) (below : List ℕ) (at : Way → Way) (z : Zone) (b : Branch) (p : Blocks) (l r : Task) (x y : Final Held) (H : Vars) → Premises k below at z (Fork b p l r) → final l ≡ Some x → final r ≡ Some y → TreeGoes u below (Fork b p l r) H
       → Further (λ L. TreeGoes u below (resumed (core u) b (join_of (core u) b p x y)) L) H

@@ -41,7 +41,7 @@ use Rattle.perm_core.proofs.KeepsPicture.HiddenFree.{hidden-free}
 use Rattle.perm_core.proofs.KeepsPicture.HiddenVariables.{all-none}
 use Rattle.perm_core.proofs.KeepsPicture.SideFree.{side-free}
 use Rattle.perm_core.proofs.KeepsPicture.LeafTurns.{Receives, first, last, Begins}
-use Rattle.perm_core.proofs.KeepsPicture.LiveCode.{same, made-written, Top, top, do-goes}
+use Rattle.perm_core.proofs.KeepsPicture.LiveCode.{made-written, Top, top, do-goes}
 use Rattle.perm_core.proofs.KeepsPicture.LiveLists.{set-length, assign-has, clear-has, clear_all-has, only-has, either-first, either-second, evaluates-has, minus-both, AllValues, first-has}
 use Rattle.perm_core.proofs.KeepsPicture.ValuedLists.{has-of}
 

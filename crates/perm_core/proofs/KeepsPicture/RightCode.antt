@@ -8,7 +8,7 @@ use Rattle.perm_tree.specs.declared.ast.Shape.{Shape}
 use Rattle.perm_tree.specs.Code.{Term, Argument, Tie, Shares, Raises, Lends, Instruction, Invoke, Code, End, Give, Return, Do, If, While, Par, Recover, Routine, UnitCode}
 use Rattle.perm_tree.specs.Mentions.{term_mentions, any_in_option, any_in_argument, mentions, mentioned, block_mentions}
 use Rattle.perm_tree.specs.Vars.{Vars, none, just, below, those, plus, minus, meet, IsWithin}
-use Rattle.perm_tree.proofs.MentionLaws.{within-plus, within-minus, block_writes-within}
+use Rattle.perm_tree.proofs.MentionLaws.{same-within, within-left, within-right, within-both, within-plus, within-minus, block_writes-within}
 use Rattle.perm_rules.specs.Parts.{Context}
 use Rattle.perm_rules.specs.Goes.{context, first_live}
 use Rattle.perm_rules.specs.Scoping.{given, has_none, hides_tied, is_scoped}
@@ -30,24 +30,8 @@ use Rattle.perm_core.proofs.KeepsPicture.LeafTurns.{Receives, first, last, Creat
 use Rattle.perm_core.proofs.KeepsPicture.TreeEvents.{EventAt, refused_leaf, told_leaf, joining, on_left, on_right}
 
 -- ---------- sets ----------
-same : (G : Vars) → IsWithin G G
-same G x e = e
-
 then : {G H K : Vars} → IsWithin G H → IsWithin H K → IsWithin G K
 then f g x e = g x (f x e)
-
-left : (G H : Vars) → IsWithin G (plus G H)
-left G H x e = or_left (G x) (H x) e
-
-right : (G H : Vars) → IsWithin H (plus G H)
-right G H x e = or_right (G x) (H x) e
-
-either : {G H K : Vars} → IsWithin G K → IsWithin H K → IsWithin (plus G H) K
-either {G} {H} {K} f g x e = pick (or_cases (G x) (H x) e)
-  where
-    pick : (G x ≡ true) ⊎ (H x ≡ true) → K x ≡ true
-    pick (inl q) = f x q
-    pick (inr q) = g x q
 
 -- what may have a value within a block and isn't its own stands outside
 outer : (U : Vars) (a : Code) (own : List ℕ) → IsWithin (minus (plus U (mentioned a)) (those own)) (plus U (block_mentions own a))
@@ -112,8 +96,8 @@ module _ (u : UnitCode) where
   grown-instead (OpenBlock own rest) c a U V less gives = within-minus (plus V (mentioned a)) (plus U (mentioned c)) (those own) less
   grown-instead (OpenRecover own hides saved rest) c a U V less gives =
       within-plus (minus (plus V (mentioned a)) (those own)) (minus (plus U (mentioned c)) (those own)) (plus (valued saved) (given a)) (plus (valued saved) (given c))
-      (within-minus (plus V (mentioned a)) (plus U (mentioned c)) (those own) less) (within-plus (valued saved) (valued saved) (given a) (given c) (same (valued saved)) gives)
-  grown-instead (OpenCall tie into y saved lent caller rest) c a U V less gives = same (plus (valued saved) (plus (just_lent lent y) (just_taken into)))
+      (within-minus (plus V (mentioned a)) (plus U (mentioned c)) (those own) less) (within-plus (valued saved) (valued saved) (given a) (given c) (same-within (valued saved)) gives)
+  grown-instead (OpenCall tie into y saved lent caller rest) c a U V less gives = same-within (plus (valued saved) (plus (just_lent lent y) (just_taken into)))
 
   -- other code in its place, in which no more stands and which gives to the same variable
   stack-instead : (m : ℕ) (c a : Code) (st : List (Frame Held)) (U V : Vars) → code_right (context_of u m) a V ≡ true → IsWithin (plus V (mentioned a)) (plus U (mentioned c)) → IsWithin (given a) (given c)
@@ -138,7 +122,7 @@ module _ (u : UnitCode) where
   settled-right b vs End (OpenBlock own rest ∷ st) e =
       settled-right b (clear_all tagged vs own) rest st
       (stack-fewer u b.own.routine rest st (valued (clear_all tagged vs own)) (minus (plus (valued vs) none) (those own))
-      (then (clear_all-within vs own) (within-minus (valued vs) (plus (valued vs) none) (those own) (left (valued vs) none))) (below-right b.own.routine End (OpenBlock own rest) st (valued vs) e))
+      (then (clear_all-within vs own) (within-minus (valued vs) (plus (valued vs) none) (those own) (within-left (valued vs) (valued vs) none (same-within (valued vs))))) (below-right b.own.routine End (OpenBlock own rest) st (valued vs) e))
   settled-right b vs End [] e = e
   settled-right b vs End (OpenRecover own hides saved rest ∷ st) e = e
   settled-right b vs End (OpenCall tie into y saved lent caller rest ∷ st) e = e
@@ -162,9 +146,9 @@ module _ (u : UnitCode) where
       let p = and_parts (call_right k i && calls_right k rest) (is_scoped k rest (plus U (mentions i))) (top-right m (Do at i rest) st U e) in
       stack-instead m (Do at i rest) rest st U V
       (together (calls_right k rest) (is_scoped k rest V) (and_parts (call_right k i) (calls_right k rest) p.0).1 (scoped-fewer k rest V (plus U (mentions i)) less p.1))
-      (either (then less (within-plus U U (mentions i) (plus (mentions i) (mentioned rest)) (same U) (left (mentions i) (mentioned rest))))
-      (then (right (mentions i) (mentioned rest)) (right U (plus (mentions i) (mentioned rest)))))
-      (same (given rest)) e
+      (within-both _ _ _ (then less (within-plus U U (mentions i) (plus (mentions i) (mentioned rest)) (same-within U) (within-left (mentions i) (mentions i) (mentioned rest) (same-within (mentions i)))))
+      (within-right _ U (plus (mentions i) (mentioned rest)) (within-right (mentioned rest) (mentions i) (mentioned rest) (same-within (mentioned rest)))))
+      (same-within (given rest)) e
 
   -- ---------- blocks ----------
   -- the code behind a statement, where what has a value stood before it or stands in it
@@ -172,7 +156,7 @@ module _ (u : UnitCode) where
       → IsWithin (given rest) (given c) → stack_right u m c st U ≡ true → stack_right u m rest st V ≡ true
   behind-right m c rest st U M V calls scoped less outer_m stands gives e =
       stack-instead m c rest st U V (together (calls_right (context_of u m) rest) (is_scoped (context_of u m) rest V) calls (scoped-fewer (context_of u m) rest V M less scoped))
-      (either (then less outer_m) (then stands (right U (mentioned c)))) gives e
+      (within-both _ _ _ (then less outer_m) (within-right _ U (mentioned c) stands)) gives e
 
   if-right : (m : ℕ) (at : Span) (x : Term) (own1 : List ℕ) (a : Code) (own2 : List ℕ) (d rest : Code) (st : List (Frame Held)) (U : Vars) → stack_right u m (If at x own1 a own2 d rest) st U ≡ true
       → (stack_right u m a (OpenBlock own1 rest ∷ st) U ≡ true) × (stack_right u m d (OpenBlock own2 rest ∷ st) U ≡ true)
@@ -209,25 +193,25 @@ module _ (u : UnitCode) where
       T = term_mentions x
 
       stands : IsWithin (mentioned rest) (mentioned c)
-      stands = then (right N2 (mentioned rest)) (then (right N1 (plus N2 (mentioned rest))) (right T (plus N1 (plus N2 (mentioned rest)))))
+      stands = then (within-right (mentioned rest) N2 (mentioned rest) (same-within (mentioned rest))) (within-right _ T (plus N1 (plus N2 (mentioned rest))) (within-right (plus N2 (mentioned rest)) N1 (plus N2 (mentioned rest)) (same-within (plus N2 (mentioned rest)))))
 
       within : IsWithin M (plus U (mentioned c))
       within =
           let R : Vars = mentioned rest in
-          within-plus U U (plus N1 N2) (mentioned c) (same U)
-          (then (within-plus N1 N1 N2 (plus N2 R) (same N1) (left N2 R)) (right T (plus N1 (plus N2 R))))
+          within-plus U U (plus N1 N2) (mentioned c) (same-within U)
+          (within-right _ T (plus N1 (plus N2 R)) (within-plus N1 N1 N2 (plus N2 R) (same-within N1) (within-left N2 N2 R (same-within N2))))
 
       first_block : stack_right u m a (OpenBlock own1 rest ∷ st) U ≡ true
       first_block =
           let V : Vars = minus (plus U (mentioned a)) (those own1) in
           together (code_right k a U) (true && stack_right u m rest st V) (together (calls_right k a) (is_scoped k a U) calls.0 scoped.0)
-          (behind-right m c rest st U M V calls.1.1 scoped.1.1 (then (outer U a own1) (within-plus U U N1 (plus N1 N2) (same U) (left N1 N2))) within stands (same (given rest)) e)
+          (behind-right m c rest st U M V calls.1.1 scoped.1.1 (then (outer U a own1) (within-plus U U N1 (plus N1 N2) (same-within U) (within-left N1 N1 N2 (same-within N1)))) within stands (same-within (given rest)) e)
 
       second_block : stack_right u m d (OpenBlock own2 rest ∷ st) U ≡ true
       second_block =
           let V : Vars = minus (plus U (mentioned d)) (those own2) in
           together (code_right k d U) (true && stack_right u m rest st V) (together (calls_right k d) (is_scoped k d U) calls.1.0 scoped.1.0)
-          (behind-right m c rest st U M V calls.1.1 scoped.1.1 (then (outer U d own2) (within-plus U U N2 (plus N1 N2) (same U) (right N1 N2))) within stands (same (given rest)) e)
+          (behind-right m c rest st U M V calls.1.1 scoped.1.1 (then (outer U d own2) (within-plus U U N2 (plus N1 N2) (same-within U) (within-right N2 N1 N2 (same-within N2)))) within stands (same-within (given rest)) e)
 
   while-right : (m : ℕ) (at : Span) (x : Term) (own : List ℕ) (body rest : Code) (st : List (Frame Held)) (U : Vars) → stack_right u m (While at x own body rest) st U ≡ true
       → (stack_right u m body (OpenBlock own (While at x own body rest) ∷ st) U ≡ true) × (stack_right u m rest st U ≡ true)
@@ -264,10 +248,10 @@ module _ (u : UnitCode) where
       T = term_mentions x
 
       within : IsWithin M (plus U (mentioned c))
-      within = within-plus U U N (mentioned c) (same U) (then (left N R) (right T (plus N R)))
+      within = within-plus U U N (mentioned c) (same-within U) (within-right _ T (plus N R) (within-left N N R (same-within N)))
 
       twice : IsWithin (plus M N) M
-      twice = either (same M) (right U N)
+      twice = within-both _ _ _ (same-within M) (within-right N U N (same-within N))
 
       again : is_scoped k c M ≡ true
       again = together (has_none M own) (is_scoped k body (plus M N) && is_scoped k rest (plus M N)) (none-own U body own head.0) (together (is_scoped k body (plus M N)) (is_scoped k rest (plus M N)) (scoped-fewer k body (plus M N) M twice scoped.0) (scoped-fewer k rest (plus M N) M twice scoped.1))
@@ -275,20 +259,20 @@ module _ (u : UnitCode) where
       in_loop : stack_right u m body (OpenBlock own (While at x own body rest) ∷ st) U ≡ true
       in_loop =
           let V : Vars = minus (plus U (mentioned body)) (those own) in
-          together (code_right k body U) (true && stack_right u m c st V) (together (calls_right k body) (is_scoped k body U) calls.0 (scoped-fewer k body U M (left U N) scoped.0))
-          (behind-right m c c st U M V parts.0 again (outer U body own) within (same (mentioned c)) (same (given c)) e)
+          together (code_right k body U) (true && stack_right u m c st V) (together (calls_right k body) (is_scoped k body U) calls.0 (scoped-fewer k body U M (within-left U U N (same-within U)) scoped.0))
+          (behind-right m c c st U M V parts.0 again (outer U body own) within (same-within (mentioned c)) (same-within (given c)) e)
 
       behind : stack_right u m rest st U ≡ true
-      behind = behind-right m c rest st U M U calls.1 scoped.1 (left U N) within (then (right N R) (right T (plus N R))) (same (given rest)) e
+      behind = behind-right m c rest st U M U calls.1 scoped.1 (within-left U U N (same-within U)) within (within-right _ T (plus N R) (within-right R N R (same-within R))) (same-within (given rest)) e
 
   -- a recover block is entered: what is hidden is laid by
   opened-right : (m : ℕ) (at : Span) (x : ℕ) (own hides : List ℕ) (body rest : Code) (st : List (Frame Held)) (vs : List Held) → stack_right u m (Recover at x own hides body rest) st (valued vs) ≡ true
       → stack_right u m body (OpenRecover own hides (only tagged (those hides) vs) rest ∷ st) (valued (only tagged (λ y. not (those hides y)) vs)) ≡ true
   opened-right m at x own hides body rest st vs e =
       together (code_right k body V) (hides_tied k (minus (plus V (mentioned body)) (those own)) hides && stack_right u m rest st W)
-      (together (calls_right k body) (is_scoped k body V) calls.0 (scoped-fewer k body V (plus U H) (then fewer (left U H)) scoped.0))
+      (together (calls_right k body) (is_scoped k body V) calls.0 (scoped-fewer k body V (plus U H) (within-left _ U H fewer) scoped.0))
       (together (hides_tied k (minus (plus V (mentioned body)) (those own)) hides) (stack_right u m rest st W) (tied-fewer k (minus (plus V (mentioned body)) (those own)) (plus U N) hides inner tied)
-      (behind-right m c rest st U M W calls.1 scoped.1 grown_within within (then (right N R) (right (just x) (plus N R))) (same (given rest)) e))
+      (behind-right m c rest st U M W calls.1 scoped.1 grown_within within (within-right _ (just x) (plus N R) (within-right R N R (same-within R))) (same-within (given rest)) e))
     where
       k : Context
       k = context_of u m
@@ -345,24 +329,24 @@ module _ (u : UnitCode) where
       fewer_saved y m = (and_parts (those hides y) (valued vs y) (only-within (those hides) vs y m)).1
 
       inner : IsWithin (minus (plus V (mentioned body)) (those own)) (plus U N)
-      inner = then (outer V body own) (within-plus V U N N fewer (same N))
+      inner = then (outer V body own) (within-plus V U N N fewer (same-within N))
 
       grown_within : IsWithin W M
       grown_within =
-          either (then inner (right (just x) (plus U N)))
-          (either (then fewer_saved (then (left U N) (right (just x) (plus U N)))) (λ y g. or_left (just x y) (plus U N y) (given-one body x y head.0 g)))
+          within-both _ _ _ (within-right _ (just x) (plus U N) inner)
+          (within-both _ _ _ (then fewer_saved (within-right _ (just x) (plus U N) (within-left U U N (same-within U)))) (λ y g. or_left (just x y) (plus U N y) (given-one body x y head.0 g)))
 
       within : IsWithin M (plus U (mentioned c))
       within =
-          either (then (left (just x) (plus N R)) (right U (mentioned c)))
-          (within-plus U U N (mentioned c) (same U) (then (left N R) (right (just x) (plus N R))))
+          within-both _ _ _ (within-right _ U (mentioned c) (within-left (just x) (just x) (plus N R) (same-within (just x))))
+          (within-plus U U N (mentioned c) (same-within U) (within-right _ (just x) (plus N R) (within-left N N R (same-within N))))
 
   -- a par begins: its sides get what stands in them
   split-right : (b : Branch) (t : ℕ) (at : Span) (own1 : List ℕ) (a : Code) (own2 : List ℕ) (d rest : Code) → stack_right u b.own.routine (Par at own1 a own2 d rest) b.stack (valued b.own.vars) ≡ true
       → tree_right u (done (core u) b t (Splits (blocks own1 a own2 d) rest)) ≡ true
   split-right b t at own1 a own2 d rest e =
       together (stack_right u m rest b.stack (plus (valued kept) (plus N1 N2))) (code_right k a (valued first_vs) && code_right k d (valued second_vs))
-      (behind-right m c rest b.stack U M (plus (valued kept) (plus N1 N2)) calls.1.1 scoped.1.1 (within-plus (valued kept) U (plus N1 N2) (plus N1 N2) (fewer (in_neither (back_l u m p) (back_r u m p))) (same (plus N1 N2))) within stands (same (given rest)) e)
+      (behind-right m c rest b.stack U M (plus (valued kept) (plus N1 N2)) calls.1.1 scoped.1.1 (within-plus (valued kept) U (plus N1 N2) (plus N1 N2) (fewer (in_neither (back_l u m p) (back_r u m p))) (same-within (plus N1 N2))) within stands (same-within (given rest)) e)
       (together (code_right k a (valued first_vs)) (code_right k d (valued second_vs))
       (together (calls_right k a) (is_scoped k a (valued first_vs)) calls.0 (scoped-fewer k a (valued first_vs) U (fewer N1) scoped.0))
       (together (calls_right k d) (is_scoped k d (valued second_vs)) calls.1.0 (scoped-fewer k d (valued second_vs) U (fewer N2) scoped.1.0)))
@@ -416,10 +400,10 @@ module _ (u : UnitCode) where
           (q.0, and_parts (is_scoped k d U) (is_scoped k rest M) q.1)
 
       stands : IsWithin (mentioned rest) (mentioned c)
-      stands = then (right N2 (mentioned rest)) (right N1 (plus N2 (mentioned rest)))
+      stands = within-right _ N1 (plus N2 (mentioned rest)) (within-right (mentioned rest) N2 (mentioned rest) (same-within (mentioned rest)))
 
       within : IsWithin M (plus U (mentioned c))
-      within = let R : Vars = mentioned rest in within-plus U U (plus N1 N2) (mentioned c) (same U) (within-plus N1 N1 N2 (plus N2 R) (same N1) (left N2 R))
+      within = let R : Vars = mentioned rest in within-plus U U (plus N1 N2) (mentioned c) (same-within U) (within-plus N1 N1 N2 (plus N2 R) (same-within N1) (within-left N2 N2 R (same-within N2)))
 
   -- ---------- calls ----------
   -- a called method is entered with `this` and its parameters
@@ -447,7 +431,7 @@ module _ (u : UnitCode) where
         on-right b l t b.own.routine vs rest st stays.vars stays.routine (do-right b.own.routine at i rest st (valued b.own.vars) (valued vs) (acts-within u b.own w i o vs acts) e)
     turn-right b t w _ _ _ _ here e (making at i rest st shape n x l is q) =
         on-right b l t b.own.routine (assign b.own.vars x w) rest st (ap (λ (z : Own). z.vars) q) (ap (λ (z : Own). z.routine) q)
-        (do-right b.own.routine at i rest st (valued b.own.vars) (valued (assign b.own.vars x w)) (then (assign-within b.own.vars x w) (within-plus (valued b.own.vars) (valued b.own.vars) (just x) (mentions i) (same (valued b.own.vars)) (stands i shape n x is))) e)
+        (do-right b.own.routine at i rest st (valued b.own.vars) (valued (assign b.own.vars x w)) (then (assign-within b.own.vars x w) (within-plus (valued b.own.vars) (valued b.own.vars) (just x) (mentions i) (same-within (valued b.own.vars)) (stands i shape n x is))) e)
       where
         stands : (i : Instruction) (shape : Shape) (n x : ℕ) → Creates u b.own i shape n x → IsWithin (just x) (mentions i)
         stands _ _ _ _ (object x c ts q) y e = e
@@ -489,9 +473,9 @@ module _ (u : UnitCode) where
         kept : IsWithin G (plus (valued b.own.vars) (mentions (Invoke into tie consumed y m args)))
         kept =
             let M : Vars = mentions (Invoke into tie consumed y m args) in
-            either (then (subst (λ (ws : List Held). IsWithin (valued ws) (valued b.own.vars)) (sym q1) (then (kept-within tie y vs) (receives-within b.own consumed y args this found vs is.receives))) (left (valued b.own.vars) M))
-            (then (either (λ x e. or_right (any_in_option (nat_eq x) into) (nat_eq x y || list_any (any_in_argument (nat_eq x)) args) (or_left (nat_eq x y) (list_any (any_in_argument (nat_eq x)) args) (lent-y x e)))
-            (λ x e. or_left (any_in_option (nat_eq x) into) (nat_eq x y || list_any (any_in_argument (nat_eq x)) args) (taken x e))) (right (valued b.own.vars) M))
+            within-both _ _ _ (within-left _ (valued b.own.vars) M (subst (λ (ws : List Held). IsWithin (valued ws) (valued b.own.vars)) (sym q1) (then (kept-within tie y vs) (receives-within b.own consumed y args this found vs is.receives))))
+            (within-right _ (valued b.own.vars) M (within-both _ _ _ (λ x e. or_right (any_in_option (nat_eq x) into) (nat_eq x y || list_any (any_in_argument (nat_eq x)) args) (or_left (nat_eq x y) (list_any (any_in_argument (nat_eq x)) args) (lent-y x e)))
+            (λ x e. or_left (any_in_option (nat_eq x) into) (nat_eq x y || list_any (any_in_argument (nat_eq x)) args) (taken x e))))
     turn-right b t w _ _ _ _ here e (left_block at x own1 a own2 a2 rest st) = on-right b b.own t b.own.routine b.own.vars a (OpenBlock own1 rest ∷ st) refl refl (if-right b.own.routine at x own1 a own2 a2 rest st (valued b.own.vars) e).0
     turn-right b t w _ _ _ _ here e (right_block at x own1 a own2 a2 rest st) = on-right b b.own t b.own.routine b.own.vars a2 (OpenBlock own2 rest ∷ st) refl refl (if-right b.own.routine at x own1 a own2 a2 rest st (valued b.own.vars) e).1
     turn-right b t w _ _ _ _ here e (into_loop at x own body rest st) =
@@ -515,16 +499,16 @@ module _ (u : UnitCode) where
         ws = clear_all tagged (clear tagged b.own.vars y) own
 
         stay : IsWithin (valued ws) (minus (plus U (plus (just y) (just x))) (those own))
-        stay = then (clear_all-within (clear tagged b.own.vars y) own) (within-minus (valued (clear tagged b.own.vars y)) (plus U (plus (just y) (just x))) (those own) (then (clear-within b.own.vars y) (left U (plus (just y) (just x)))))
+        stay = then (clear_all-within (clear tagged b.own.vars y) own) (within-minus (valued (clear tagged b.own.vars y)) (plus U (plus (just y) (just x))) (those own) (within-left _ U (plus (just y) (just x)) (clear-within b.own.vars y)))
 
         less : IsWithin (valued (assign (from_either (those hides) saved ws) x v)) (plus (minus (plus U (plus (just y) (just x))) (those own)) (plus (valued saved) (just x)))
         less =
             let inner : Vars = minus (plus U (plus (just y) (just x))) (those own) in
             then (assign-within (from_either (those hides) saved ws) x v)
-            (either (then (either-within (those hides) saved ws)
-            (either (λ z m. or_right (inner z) (plus (valued saved) (just x) z) (or_left (valued saved z) (just x z) (and_parts (those hides z) (valued saved z) m).1))
+            (within-both _ _ _ (then (either-within (those hides) saved ws)
+            (within-both _ _ _ (λ z m. or_right (inner z) (plus (valued saved) (just x) z) (or_left (valued saved z) (just x z) (and_parts (those hides z) (valued saved z) m).1))
             (λ z m. or_left (inner z) (plus (valued saved) (just x) z) (stay z (and_parts (valued ws z) (not (those hides z)) m).0))))
-            (then (right (valued saved) (just x)) (right inner (plus (valued saved) (just x)))))
+            (within-right _ inner (plus (valued saved) (just x)) (within-right (just x) (valued saved) (just x) (same-within (just x)))))
     turn-right b t w _ _ _ _ here e (returning at a tie into y saved lent caller rest st v l q goes) =
         on-right b l t caller (assign_into (lent_back lent y saved) into v) rest st goes.vars goes.routine
         (stack-fewer u caller rest st (valued (assign_into (lent_back lent y saved) into v)) (plus (valued saved) (plus (just_lent lent y) (just_taken into))) less
@@ -533,8 +517,8 @@ module _ (u : UnitCode) where
         less : IsWithin (valued (assign_into (lent_back lent y saved) into v)) (plus (valued saved) (plus (just_lent lent y) (just_taken into)))
         less =
             then (into-within (lent_back lent y saved) into v)
-            (either (then (back-within lent y saved) (within-plus (valued saved) (valued saved) (just_lent lent y) (plus (just_lent lent y) (just_taken into)) (same (valued saved)) (left (just_lent lent y) (just_taken into))))
-            (then (right (just_lent lent y) (just_taken into)) (right (valued saved) (plus (just_lent lent y) (just_taken into)))))
+            (within-both _ _ _ (then (back-within lent y saved) (within-plus (valued saved) (valued saved) (just_lent lent y) (plus (just_lent lent y) (just_taken into)) (same-within (valued saved)) (within-left (just_lent lent y) (just_lent lent y) (just_taken into) (same-within (just_lent lent y)))))
+            (within-right _ (valued saved) (plus (just_lent lent y) (just_taken into)) (within-right (just_taken into) (just_lent lent y) (just_taken into) (same-within (just_taken into)))))
 
     -- ---------- joins ----------
     -- what has a value after a join had one or stands in a side
@@ -542,7 +526,7 @@ module _ (u : UnitCode) where
     merged-within m p vs ls rs =
         let N : Vars = plus (mentions_l p) (mentions_r p) in
         then (either-within (back_r u m p) rs (from_either (back_l u m p) ls vs))
-        (either (λ y q. or_right (valued vs y) (N y) (or_right (mentions_l p y) (mentions_r p y) (back (writes_r p) (mentions_r p) (block_writes-within p.own_r p.right) y (and_parts (back_r u m p y) (valued rs y) q).0)))
+        (within-both _ _ _ (λ y q. or_right (valued vs y) (N y) (or_right (mentions_l p y) (mentions_r p y) (back (writes_r p) (mentions_r p) (block_writes-within p.own_r p.right) y (and_parts (back_r u m p y) (valued rs y) q).0)))
         (λ y q. inner y (either-within (back_l u m p) ls vs y (and_parts (valued (from_either (back_l u m p) ls vs) y) (not (back_r u m p y)) q).0)))
       where
         back : (W N : Vars) → IsWithin W N → (y : ℕ) → plus W (meet (isolated_in u m) N) y ≡ true → N y ≡ true
@@ -574,10 +558,10 @@ module _ (u : UnitCode) where
 
         go : (x y : Final Held) → tree_right u (resumed (core u) b (join_of (core u) b p x y)) ≡ true
         go (Fine ls t q) (Fine rs n s) = on _ _ _ (merged-within b.own.routine p b.own.vars ls rs)
-        go (Fine ls t q) (GaveBack v n s) = on _ _ _ (left (valued b.own.vars) N)
+        go (Fine ls t q) (GaveBack v n s) = on _ _ _ (within-left (valued b.own.vars) (valued b.own.vars) N (same-within (valued b.own.vars)))
         go (Fine ls t q) (Failed f n s) = refl
-        go (GaveBack v t q) (Fine rs n s) = on _ _ _ (left (valued b.own.vars) N)
-        go (GaveBack v t q) (GaveBack v2 n s) = on _ _ _ (left (valued b.own.vars) N)
+        go (GaveBack v t q) (Fine rs n s) = on _ _ _ (within-left (valued b.own.vars) (valued b.own.vars) N (same-within (valued b.own.vars)))
+        go (GaveBack v t q) (GaveBack v2 n s) = on _ _ _ (within-left (valued b.own.vars) (valued b.own.vars) N (same-within (valued b.own.vars)))
         go (GaveBack v t q) (Failed f n s) = refl
         go (Failed f t q) (Fine rs n s) = refl
         go (Failed f t q) (GaveBack v n s) = refl
