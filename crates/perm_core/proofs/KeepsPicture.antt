@@ -6,6 +6,7 @@ pub mod Sides
 pub mod NewNames
 pub mod ValuedLists
 pub mod RightCode
+pub mod RightTurns
 pub mod HiddenVariables
 pub mod LiveLists
 pub mod LiveCode

@@ -27,10 +27,10 @@ use Rattle.perm_core.proofs.Conflicts.{unfailed}
 use Rattle.perm_core.proofs.KeepsPicture.CallEnds.{any-left, any-right}
 use Rattle.perm_core.proofs.KeepsPicture.ValueSets.{none-fewer}
 use Rattle.perm_core.proofs.KeepsPicture.HiddenFree.{hidden-free}
-use Rattle.perm_core.proofs.KeepsPicture.ValuedLists.{assign-within, clear-within, clear_all-within, only-within, either-within, into-within, back-within, acts-within}
+use Rattle.perm_core.proofs.KeepsPicture.ValuedLists.{assign-within, clear-within, clear_all-within, only-within, either-within, into-within, back-within, kept-within, receives-within, acts-within}
 use Rattle.perm_core.proofs.KeepsPicture.LeafTurns.{Creates, object, array, TurnTo, dying, ending, acting, making, beginning, left_block, right_block, into_loop, out_of_loop, parting, recovering, giving, returning}
 use Rattle.perm_core.proofs.KeepsPicture.TreeEvents.{EventAt, refused_leaf, told_leaf, joining, on_left, on_right}
-use Rattle.perm_core.proofs.KeepsPicture.RightCode.{given-one, top-right, kept-within, receives-within}
+use Rattle.perm_core.proofs.KeepsPicture.RightCode.{given-one, top-right}
 
 -- ---------- lists that no variable of a set is in ----------
 pub none-all : (U : Vars) (xs : List ℕ) → ((x : ℕ) → those xs x ≡ true → U x ≡ false) → has_none U xs ≡ true
@@ -191,7 +191,7 @@ module _ (u : UnitCode) where
       i = Invoke into tie consumed y m args
 
       kept : IsWithin (valued (while_called tagged Moves tie y vs)) (valued b.own.vars)
-      kept x e = receives-within u b.own consumed y args this found vs is.receives x (kept-within u tie y vs x e)
+      kept x e = receives-within u b.own consumed y args this found vs is.receives x (kept-within tie y vs x e)
 
       lent-y : (o : Option Held) (x : ℕ) → just_lent o y x ≡ true → nat_eq x y ≡ true
       lent-y None x e = absurd (let no : ⊥ = cc e in no)

@@ -23,7 +23,7 @@ use Rattle.perm_core.proofs.KeepsPicture.HiddenVariables.{keeps-hidden}
 use Rattle.perm_core.proofs.KeepsPicture.LiveLists.{IsAnswer}
 use Rattle.perm_core.proofs.KeepsPicture.LiveTrees.{Premises, keeps-goes}
 use Rattle.perm_core.proofs.KeepsPicture.NewNames.{gives-fewer, makes-new, after-none}
-use Rattle.perm_core.proofs.KeepsPicture.RightCode.{keeps-right}
+use Rattle.perm_core.proofs.KeepsPicture.RightTurns.{keeps-right}
 use Rattle.perm_core.proofs.KeepsPicture.Sides.{SidesFit, keeps-sides}
 use Rattle.perm_core.proofs.KeepsPicture.TreeEvents.{EventAt, IsTold, IsStep, step-event}
 

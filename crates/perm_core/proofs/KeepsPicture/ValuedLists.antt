@@ -1,14 +1,14 @@
 -- Which variables have a value after they are assigned, cleared, handed on or begun.
-use Rattle.std.proofs.Common.{◌≡◌, ℕ, zero, suc, true, false, Option, Some, None, List, [], ◌∷◌, ◌++◌, length, refl, ap, ◌∙◌, inl, inr}
+use Rattle.std.proofs.Common.{◌≡◌, ℕ, zero, suc, Bool, true, false, Option, Some, None, List, [], ◌∷◌, ◌++◌, length, refl, ap, ◌∙◌, inl, inr}
 use Rattle.std.specs.Prelude.{◌⊎◌, ◌&&◌, ◌||◌, not, nat_eq, slice_get, replicate}
 use Rattle.std.proofs.lemmas.Bool.{or_cases, or_left, or_right}
-use Rattle.perm_tree.specs.Code.{Argument, Instruction, Declare, Assign, LoadField, LoadLength, LoadItem, TakeField, StoreField, StoreItem, Print, UnitCode}
+use Rattle.perm_tree.specs.Code.{Tie, Shares, Raises, Lends, Argument, Instruction, Declare, Assign, LoadField, LoadLength, LoadItem, TakeField, StoreField, StoreItem, Print, UnitCode}
 use Rattle.perm_tree.specs.Mentions.{any_in_argument, mentions}
 use Rattle.perm_tree.specs.Vars.{Vars, just, below, those, plus, minus, meet, IsWithin}
 use Rattle.perm_meaning.specs.Values.{Value}
 use Rattle.perm_meaning.specs.Names.{Name}
 use Rattle.perm_meaning.specs.Expressions.{tagged, assign, assign_into, clear, clear_all}
-use Rattle.perm_meaning.specs.Custody.{from_either, only}
+use Rattle.perm_meaning.specs.Custody.{Moves, from_either, only, while_called}
 use Rattle.perm_meaning.specs.NamedHeap.{Held, Op, Own}
 use Rattle.perm_meaning.specs.Turns.{lent_back}
 use Rattle.perm_meaning.proofs.SameName.{together, eq_itself}
@@ -16,7 +16,7 @@ use Rattle.perm_core.specs.Picture.{has_value, valued, just_lent, just_taken}
 use Rattle.perm_core.proofs.KeepsPicture.CallEnds.{set-cases}
 use Rattle.perm_core.proofs.KeepsPicture.Gives.{clear-cases, clear_all-cases, either-cases}
 use Rattle.perm_core.proofs.KeepsPicture.ParStarts.{only-cases}
-use Rattle.perm_core.proofs.KeepsPicture.LeafTurns.{Evaluates, no_more, plain, consumes, Gives_one, plain_one, consumes_one, Acts, declares, assigns, loads, measures, reads, takes, stores, writes, prints}
+use Rattle.perm_core.proofs.KeepsPicture.LeafTurns.{Evaluates, no_more, plain, consumes, Gives_one, plain_one, consumes_one, Receives, first, last, Acts, declares, assigns, loads, measures, reads, takes, stores, writes, prints}
 
 -- a variable that has a value, and the value
 pub has-of : (vs : List Held) (x : ℕ) → valued vs x ≡ true → (a : Value Name) × (slice_get vs x ≡ Some (Some a))
@@ -85,6 +85,16 @@ pub evaluates-within : (args : List Argument) (vs found ws : List Held) → Eval
 evaluates-within _ _ _ _ (no_more vs) y m = m
 evaluates-within _ _ _ _ (plain e v rest vs found ws q more) y m = evaluates-within rest vs found ws more y m
 evaluates-within _ _ _ _ (consumes x v rest vs found ws here q more) y m = clear-within vs x y (evaluates-within rest (clear tagged vs x) found ws more y m)
+
+-- what stays with a caller, and what its arguments leave
+pub kept-within : (tie : Tie) (y : ℕ) (vs : List Held) → IsWithin (valued (while_called tagged Moves tie y vs)) (valued vs)
+kept-within Shares y vs x e = e
+kept-within Raises y vs x e = e
+kept-within Lends y vs x e = clear-within vs y x e
+
+pub receives-within : (u : UnitCode) (l : Own) (consumed : Bool) (y : ℕ) (args : List Argument) (this : Held) (found vs : List Held) → Receives u l consumed y args this found vs → IsWithin (valued vs) (valued l.vars)
+receives-within u l _ _ _ _ _ _ (first y args this found vs here q is) x e = clear-within l.vars y x (evaluates-within args (clear tagged l.vars y) found vs is x e)
+receives-within u l _ _ _ _ _ _ (last y args this found vs is here) x e = evaluates-within args l.vars found vs is x e
 
 -- what a simple statement gives a value stands in it
 pub acts-within : (u : UnitCode) (l : Own) (w : Held) (i : Instruction) (o : Op) (vs : List Held) → Acts u l w i o vs → IsWithin (valued vs) (plus (valued l.vars) (mentions i))
