@@ -261,7 +261,7 @@ module _ (u : UnitCode) (labels : Labels) (h : Objects Name) (at : Way → Way) 
       (field-fits u labels h r ts.k len f ts.field d.0 (objects r) led.0 in-class d.1.0)
 
   -- what the load changes of the labels
-  pub load-field-moves : MovesFields labels labels-loaded
+  load-field-moves : MovesFields labels labels-loaded
   load-field-moves = record { ρ = ρ; good = froze-good i j r f; own = froze-own i j r f; stay = froze-variable i j r f; so = loaded-so }
 
   vars_fit : variables_fit u labels-loaded h (top_zone (at Here) z st) (at Here) (calls st) 0 c.vars (assign b.own.vars x w) ≡ true

@@ -191,11 +191,11 @@ module _ (u : UnitCode) (labels : Labels) (h : Objects Name) (at : Way → Way) 
       (o.fields.each f (Ref Isolated ts.l) d.0 in-class (sym (ap (λ (v : Option (Object Name)). value_in v f) o.here) ∙ d.1.0))
 
   -- what the take changes of the labels
-  pub take-field-moves : MovesFields labels labels-taken
+  take-field-moves : MovesFields labels labels-taken
   take-field-moves = record { ρ = ρ; good = good; own = λ q. refl; stay = λ v k i. refl; so = taken-so }
 
   -- what is there keeps its shape
-  pub take-field-keeps : (ls : Labels) → KeepsShapes ls ls h objects-taken
+  take-field-keeps : (ls : Labels) → KeepsShapes ls ls h objects-taken
   take-field-keeps ls = after-keeps u (λ n. true) (Take r f) ls (record { objects = h; given = 0 }) (λ by shape n e. absurd (let no : ⊥ = cc e in no))
 
   vars_fit : variables_fit u labels-taken objects-taken zone (at Here) (calls st) 0 c.vars (assign b.own.vars x w) ≡ true
