@@ -34,7 +34,8 @@ use Rattle.perm_core.specs.Picture.{value_fits, valued}
 use Rattle.perm_core.specs.NextPicture.{Moves, Renamings, moved, goal_of, consumed_moves, arguments_moves}
 use Rattle.perm_core.proofs.Evaluation.{Evaluates as EvaluatesTo, term-evaluates}
 use Rattle.perm_core.proofs.KeepsPicture.Arguments.{IsPlain, unary-plain, binary-plain, plain-comes, null-comes, fit-typed, Comes, argument-comes}
-use Rattle.perm_core.proofs.KeepsPicture.AssignTurns.{goal-there, moves, moves-good, moves-own, moves-beside, one-cases}
+use Rattle.perm_core.proofs.KeepsPicture.CallEnds.{goal-there}
+use Rattle.perm_core.proofs.KeepsPicture.AssignTurns.{moves, moves-good, moves-own, moves-beside, one-cases}
 use Rattle.perm_core.proofs.KeepsPicture.CarriedValues.{AllFit, one-carry}
 use Rattle.perm_core.proofs.KeepsPicture.Joins.{moved-append}
 use Rattle.perm_core.proofs.KeepsPicture.LeafTurns.{Evaluates, no_more, plain, consumes, Gives_one, plain_one, consumes_one}
@@ -97,7 +98,7 @@ module _ (w : Way) (k : ℕ) where
     arguments-hands x (a ∷ rest) (t ∷ ts) z =
         hands-append (argument_consumes a) (arguments_consume rest) (arguments_consume (a ∷ rest)) (consumed_moves c w k a (goal_of (Some t) (OfVariable w (suc k) x) (OwnOf z))) (arguments_moves c w k (suc x) rest ts z)
         (λ y e. or_left (argument_consumes a y) (arguments_consume rest y) e) (λ y e. or_right (argument_consumes a y) (arguments_consume rest y) e)
-        (consumed-hands a (goal_of (Some t) (OfVariable w (suc k) x) (OwnOf z)) (goal-there t (OfVariable w (suc k) x) z refl) (goal-away t x z)) (arguments-hands (suc x) rest ts z)
+        (consumed-hands a (goal_of (Some t) (OfVariable w (suc k) x) (OwnOf z)) (goal-there (Some t) (OfVariable w (suc k) x) (OwnOf z) refl refl) (goal-away t x z)) (arguments-hands (suc x) rest ts z)
 
 -- ---------- one argument ----------
 -- where a variable isn't harmless as an argument, the call stands in its caller's zone
@@ -283,7 +284,7 @@ module _ (u : UnitCode) (h : Objects Name) (c : Context) (w : Way) (k : ℕ) (zc
       let comes = one-comes labels vs fit t x a v vs one (alive-more a G (valued vs) less g.0) m.0 s.0 n.0 y.0 in
       came-more labels x a rest t ts v found ws comes.0 comes.1.0 comes.1.1
       (arguments-come rest (λ m. moved (consumed_moves c w k a (goal_of (Some t) (OfVariable w (suc k) x) (OwnOf zi))) (labels m)) (suc x) ts vs found ws (after_argument a G) more
-      (next-fit labels vs vs a v (goal_of (Some t) (OfVariable w (suc k) x) (OwnOf zi)) (goal-there t (OfVariable w (suc k) x) zi refl) one fit)
+      (next-fit labels vs vs a v (goal_of (Some t) (OfVariable w (suc k) x) (OwnOf zi)) (goal-there (Some t) (OfVariable w (suc k) x) (OwnOf zi) refl refl) one fit)
       (next-alive vs vs a v G one less) g.1 m.1 s.1 n.1 y.1)
   arguments-come _ labels x (t ∷ ts) _ _ _ G (consumes z v rest vs found ws here q more) fit less gone misfit weak needs may =
       let a : Argument = Consumed z in
@@ -297,5 +298,5 @@ module _ (u : UnitCode) (h : Objects Name) (c : Context) (w : Way) (k : ℕ) (zc
       let comes = one-comes labels vs fit t x a v us one (alive-more a G (valued vs) less g.0) m.0 s.0 n.0 y.0 in
       came-more labels x a rest t ts v found ws comes.0 comes.1.0 comes.1.1
       (arguments-come rest (λ m. moved (consumed_moves c w k a (goal_of (Some t) (OfVariable w (suc k) x) (OwnOf zi))) (labels m)) (suc x) ts us found ws (after_argument a G) more
-      (next-fit labels vs us a v (goal_of (Some t) (OfVariable w (suc k) x) (OwnOf zi)) (goal-there t (OfVariable w (suc k) x) zi refl) one fit)
+      (next-fit labels vs us a v (goal_of (Some t) (OfVariable w (suc k) x) (OwnOf zi)) (goal-there (Some t) (OfVariable w (suc k) x) (OwnOf zi) refl refl) one fit)
       (next-alive vs us a v G one less) g.1 m.1 s.1 n.1 y.1)

@@ -37,10 +37,9 @@ use Rattle.perm_core.specs.Regions.{Zone, Base, OwnOf, OfVariable, OfField, Labe
 use Rattle.perm_core.specs.Picture.{context_if, context_of, variables_fit, lent_right, lent_fits, result_fits, stack_fits, tree_fits, object_fits, valued, hidden_above, context_above, RestGoes, stack_right, stack_hidden}
 use Rattle.perm_core.specs.NextPicture.{Renamings, moved, goal, zone_of_call, receiver_moves, arguments_moves, call_moves}
 use Rattle.perm_core.specs.Whole.{IsWholeRoutine, IsWhole}
-use Rattle.perm_core.proofs.KeepsPicture.AssignTurns.{goal-there}
 use Rattle.perm_core.proofs.KeepsPicture.CallArguments.{Hands, hands-none, hands-one, hands-append, goal-away, consumed-hands, arguments-hands}
 use Rattle.perm_core.proofs.KeepsPicture.CallBeginnings.{Begun, first-fit, consumed-begins, kept-begins, lent-begins}
-use Rattle.perm_core.proofs.KeepsPicture.CallEnds.{StartsLow, stack-stays}
+use Rattle.perm_core.proofs.KeepsPicture.CallEnds.{StartsLow, goal-there, stack-stays}
 use Rattle.perm_core.proofs.KeepsPicture.CarriedValues.{AllFit, to-all, from-all, stack-carry}
 use Rattle.perm_core.proofs.KeepsPicture.HiddenVariables.{top-goes, statement-shown}
 use Rattle.perm_core.proofs.KeepsPicture.LeafTurns.{Begins, Receives, first, last, consumes}
@@ -76,7 +75,7 @@ module _ (c : Context) (w : Way) (k : ℕ) (into : Option ℕ) (tie : Tie) (cons
   call-hands = hands-append w k (just y) (arguments_consume args) standing (receiver_moves c w k tie consumed y r.receiver z) (arguments_moves c w k 1 args r.params z) receiver-stands arguments-stand (receiver tie consumed) (arguments-hands w k c 1 args r.params z)
     where
       kept : Hands w k (just y) (receiver_moves c w k Shares true y r.receiver z)
-      kept = consumed-hands w k c (Consumed y) (goal r.receiver (OfVariable w (suc k) 0) (OwnOf z)) (goal-there (Ref r.receiver (Class r.class)) (OfVariable w (suc k) 0) z refl) (goal-away w k (Ref r.receiver (Class r.class)) 0 z)
+      kept = consumed-hands w k c (Consumed y) (goal r.receiver (OfVariable w (suc k) 0) (OwnOf z)) (goal-there (Some (Ref r.receiver (Class r.class))) (OfVariable w (suc k) 0) (OwnOf z) refl refl) (goal-away w k (Ref r.receiver (Class r.class)) 0 z)
 
       receiver : (t : Tie) (b : Bool) → Hands w k (just y) (receiver_moves c w k t b y r.receiver z)
       receiver Shares true = kept
