@@ -1,4 +1,20 @@
 -- Each event leads from a state with a picture to an orderly one.
+pub mod Endings
+pub mod Sides
+pub mod NewNames
+pub mod ValuedLists
+pub mod RightCode
+pub mod RightTurns
+pub mod HiddenVariables
+pub mod LiveLists
+pub mod LiveCode
+pub mod LiveTurns
+pub mod LiveTrees
+pub mod ValueSets
+pub mod FewerLive
+pub mod GoesOfTrees
+pub mod HiddenFree
+pub mod SideFree
 use Rattle.std.proofs.Common.{◌≡◌, ℕ, Bool, true, false, Option, Some, None, [], sym, ap, subst, ◌∙◌, inl, inr}
 use Rattle.std.specs.Prelude.{◌⊎◌, cond}
 use Rattle.perm_tree.specs.declared.ast.Shape.{Shape}
@@ -17,15 +33,15 @@ use Rattle.perm_core.specs.Endings.{ByReturn, is_by_return}
 use Rattle.perm_core.specs.Regions.{Base, Labels}
 use Rattle.perm_core.specs.Picture.{MayBeGiven, TreeGoes, IsOrderly, IsPicture}
 use Rattle.perm_core.proofs.TwoOperations.{Makes}
-use Rattle.perm_core.proofs.KeepsPicture.Endings.{keeps-ends}
-use Rattle.perm_core.proofs.KeepsPicture.GoesOfTrees.{Further}
-use Rattle.perm_core.proofs.KeepsPicture.HiddenVariables.{keeps-hidden}
-use Rattle.perm_core.proofs.KeepsPicture.LiveLists.{IsAnswer}
-use Rattle.perm_core.proofs.KeepsPicture.LiveTrees.{Premises, keeps-goes}
-use Rattle.perm_core.proofs.KeepsPicture.NewNames.{gives-fewer, makes-new, after-none}
-use Rattle.perm_core.proofs.KeepsPicture.RightTurns.{keeps-right}
-use Rattle.perm_core.proofs.KeepsPicture.Sides.{SidesFit, keeps-sides}
-use Rattle.perm_core.proofs.KeepsPicture.TreeEvents.{EventAt, IsTold, IsStep, step-event}
+use Rattle.perm_core.proofs.KeepsPicture.Order.Endings.{keeps-ends}
+use Rattle.perm_core.proofs.KeepsPicture.Order.GoesOfTrees.{Further}
+use Rattle.perm_core.proofs.KeepsPicture.Order.HiddenVariables.{keeps-hidden}
+use Rattle.perm_core.proofs.KeepsPicture.Order.LiveLists.{IsAnswer}
+use Rattle.perm_core.proofs.KeepsPicture.Order.LiveTrees.{Premises, keeps-goes}
+use Rattle.perm_core.proofs.KeepsPicture.Order.NewNames.{gives-fewer, makes-new, after-none}
+use Rattle.perm_core.proofs.KeepsPicture.Order.RightTurns.{keeps-right}
+use Rattle.perm_core.proofs.KeepsPicture.Order.Sides.{SidesFit, keeps-sides}
+use Rattle.perm_core.proofs.KeepsPicture.Trees.TreeEvents.{EventAt, IsTold, IsStep, step-event}
 
 -- ---------- answers ----------
 found-answers : (v : Option (Value Name)) (x : Held) → found v ≡ Found x → (a : Value Name) × (x ≡ Some a)

@@ -13,16 +13,16 @@ use Rattle.perm_core.specs.Endings.{Ending}
 use Rattle.perm_core.specs.Whole.{IsWhole}
 use Rattle.perm_core.specs.Regions.{Zone, Labels}
 use Rattle.perm_core.specs.NextPicture.{is_failing}
-use Rattle.perm_core.proofs.KeepsPicture.JoinCases.{join-case}
-use Rattle.perm_core.proofs.KeepsPicture.CallCases.{begin-turn}
-use Rattle.perm_core.proofs.KeepsPicture.LeafCases.{branch, LeafWith, TurnOf, assign-turn, read-turn, write-turn, create-turn, part-turn, give-turn, return-turn}
-use Rattle.perm_core.proofs.KeepsPicture.LeafTurns.{Acts, declares, assigns, loads, measures, reads, takes, stores, writes, prints, Stays, TurnTo, dying, ending, acting, making, beginning, left_block, right_block, into_loop, out_of_loop, parting, recovering, giving, returning}
-use Rattle.perm_core.proofs.KeepsPicture.NextLabels.{leaf-next, refused-next, join-next}
-use Rattle.perm_core.proofs.KeepsPicture.NodePremises.{NodeFits}
+use Rattle.perm_core.proofs.KeepsPicture.Pars.JoinCases.{join-case}
+use Rattle.perm_core.proofs.KeepsPicture.Calls.CallCases.{begin-turn}
+use Rattle.perm_core.proofs.KeepsPicture.Turns.LeafCases.{branch, LeafWith, TurnOf, assign-turn, read-turn, write-turn, create-turn, part-turn, give-turn, return-turn}
+use Rattle.perm_core.proofs.KeepsPicture.Turns.LeafTurns.{Acts, declares, assigns, loads, measures, reads, takes, stores, writes, prints, Stays, TurnTo, dying, ending, acting, making, beginning, left_block, right_block, into_loop, out_of_loop, parting, recovering, giving, returning}
+use Rattle.perm_core.proofs.KeepsPicture.Labels.NextLabels.{leaf-next, refused-next, join-next}
+use Rattle.perm_core.proofs.KeepsPicture.Trees.NodePremises.{NodeFits}
 use Rattle.perm_core.proofs.KeepsPicture.Order.{next-orderly}
-use Rattle.perm_core.proofs.KeepsPicture.PlainTurns.{plain-fits}
-use Rattle.perm_core.proofs.KeepsPicture.TreeEvents.{IsTold, is-step}
-use Rattle.perm_core.proofs.KeepsPicture.WholeTrees.{IsNext, whole-next}
+use Rattle.perm_core.proofs.KeepsPicture.Turns.PlainTurns.{plain-fits}
+use Rattle.perm_core.proofs.KeepsPicture.Trees.TreeEvents.{IsTold, is-step}
+use Rattle.perm_core.proofs.KeepsPicture.Trees.WholeTrees.{IsNext, whole-next}
 
 module _ (u : UnitCode) (limit : ℕ) where
   module _ (whole : IsWhole u) (labels : Labels) (heap : Heap) where
