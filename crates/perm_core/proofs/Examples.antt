@@ -1,4 +1,12 @@
--- Worked examples of the picture.
+-- Worked examples of the core and of the picture.
 mod RefutedPictures
 mod HiddenRuns
 mod ForeignMethods
+mod Interleavings
+pub mod PictureTest
+mod Pictures
+pub mod RegionPrograms
+pub mod Schedules
+mod Shortages
+mod ShownRuns
+mod WordRuns

@@ -1,4 +1,7 @@
 -- What an allowed simple statement asks of the heap is there.
+pub mod Evaluation
+pub mod Unstuck
+pub mod NextEvents
 use Rattle.std.proofs.Common.{◌≡◌, ℕ, zero, suc, ◌+◌, ◌<◌, Bool, true, false, Option, Some, None, List, [], ◌∷◌, ◌++◌, length, length-append, refl, sym, ap, subst, ◌∙◌, arith}
 use Rattle.std.specs.Prelude.{ℤ, pos, negsuc, not, ◌&&◌, cond, nat_lt, nat_eq, get_or, slice_get}
 use Rattle.std.specs.List.{list_any}
@@ -26,11 +29,11 @@ use Rattle.perm_meaning.specs.Objects.{Object, Objects, value_in, field_of}
 use Rattle.perm_core.specs.Regions.{OfField, Labels, is_absent, field_may_lead}
 use Rattle.perm_core.specs.Picture.{has_shape, length_fits, value_fits, fields_fit, class_fits, values_fit, object_fits}
 use Rattle.perm_meaning.specs.NamedHeap.{Held, Op}
-use Rattle.perm_core.proofs.Evaluation.{IsOfType, IsOfSort, Evaluates, AreTyped, plain-long, variable-evaluates, term-evaluates}
+use Rattle.perm_core.proofs.Progress.Evaluation.{IsOfType, IsOfSort, Evaluates, AreTyped, plain-long, variable-evaluates, term-evaluates}
 use Rattle.perm_meaning.proofs.Leads.{some_inj, none_some}
 use Rattle.perm_meaning.proofs.SameName.{eq_true, eq_itself}
-use Rattle.perm_core.proofs.TwoOperations.{get-beside}
-use Rattle.perm_core.proofs.LeafOperations.{Lose, clear-loses}
+use Rattle.perm_core.proofs.Commute.TwoOperations.{get-beside}
+use Rattle.perm_core.proofs.Commute.LeafOperations.{Lose, clear-loses}
 
 -- ---------- live variables ----------
 left-of : (a b : Bool) → (a && not b) ≡ true → (a ≡ true) × (b ≡ true → ⊥)

@@ -32,7 +32,7 @@ use Rattle.perm_core.specs.Claims.{IsChecked}
 use Rattle.perm_core.specs.Endings.{ByReturn, is_by_return}
 use Rattle.perm_core.specs.Regions.{Base, Labels}
 use Rattle.perm_core.specs.Picture.{MayBeGiven, TreeGoes, IsOrderly, IsPicture}
-use Rattle.perm_core.proofs.TwoOperations.{Makes}
+use Rattle.perm_core.proofs.Commute.TwoOperations.{Makes}
 use Rattle.perm_core.proofs.KeepsPicture.Order.Endings.{keeps-ends}
 use Rattle.perm_core.proofs.KeepsPicture.Order.GoesOfTrees.{Further}
 use Rattle.perm_core.proofs.KeepsPicture.Order.HiddenVariables.{keeps-hidden}

@@ -32,7 +32,7 @@ use Rattle.perm_meaning.proofs.SameName.{together, eq_true, eq_itself}
 use Rattle.perm_core.specs.Regions.{Zone, Region, OwnOf, OfVariable, Labels, same_way, same_region, is_absent, var_may_lead}
 use Rattle.perm_core.specs.Picture.{value_fits, valued}
 use Rattle.perm_core.specs.NextPicture.{Moves, Renamings, moved, goal_of, consumed_moves, arguments_moves}
-use Rattle.perm_core.proofs.Evaluation.{Evaluates as EvaluatesTo, term-evaluates}
+use Rattle.perm_core.proofs.Progress.Evaluation.{Evaluates as EvaluatesTo, term-evaluates}
 use Rattle.perm_core.proofs.KeepsPicture.Turns.Arguments.{IsPlain, unary-plain, binary-plain, plain-comes, null-comes, fit-typed, Comes, argument-comes}
 use Rattle.perm_core.proofs.KeepsPicture.Calls.CallEnds.{goal-there}
 use Rattle.perm_core.proofs.KeepsPicture.Turns.AssignTurns.{moves, moves-good, moves-own, moves-beside, one-cases}

@@ -26,7 +26,7 @@ use Rattle.perm_meaning.proofs.Leads.{some_inj, none_some}
 use Rattle.perm_core.specs.Regions.{Zone, Base, Region, Frozen, OwnOf, OfVariable, Loose, Labels, same_way, is_frozen, is_absent, may_read, var_may_lead, begins_zone, calls, zones, top_zone}
 use Rattle.perm_core.specs.Picture.{hidden_above, has_value, valued, only_valued, none_valued, stack_hidden}
 use Rattle.perm_core.specs.NextPicture.{Ends, renamed, is_rooted, goal, goal_of, goal_into, ended_to}
-use Rattle.perm_core.proofs.LeadsTo.{frozen-true}
+use Rattle.perm_core.proofs.Commute.LeadsTo.{frozen-true}
 use Rattle.perm_core.proofs.KeepsPicture.Labels.Relabellings.{Good, Sees, frozen, within, across, sees, visible, region-same, region-true, own-inj, way-same}
 use Rattle.perm_core.proofs.KeepsPicture.Labels.CarriedValues.{LentStays, StackStays}
 

@@ -29,7 +29,7 @@ use Rattle.perm_rules.specs.Scoping.{hides_tied}
 use Rattle.perm_core.specs.Regions.{Zone, Base, Region, OwnOf, OfVariable, OfField, Labels, same_way, same_region, is_frozen, is_absent, var_may_lead, calls, zones, top_zone}
 use Rattle.perm_core.specs.Picture.{context_of, value_fits, variables_fit, stack_fits, stack_hidden, hidden_above, has_value, valued, only_valued, object_fits}
 use Rattle.perm_core.specs.NextPicture.{Moves, Ends, renamed, moved, is_rooted, goal, ended_to}
-use Rattle.perm_core.proofs.LeadsTo.{frozen-true}
+use Rattle.perm_core.proofs.Commute.LeadsTo.{frozen-true}
 use Rattle.perm_core.proofs.KeepsPicture.Labels.Relabellings.{Good, good-none, good-then, good-ends, good-moves, of_variable, is-same, region-true, FieldsStay, object-carry, value-carry}
 use Rattle.perm_core.proofs.KeepsPicture.Labels.CarriedValues.{AllFit, to-all, from-all, one-carry, stack-carry}
 use Rattle.perm_core.proofs.KeepsPicture.Calls.CallEnds.{set-cases, set-length, StartsLow, top-low, nothing-below, get-less, only-hidden, any-left, any-right, stack-stays, own-outside, raised-leads}

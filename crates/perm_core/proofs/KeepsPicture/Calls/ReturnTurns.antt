@@ -21,7 +21,7 @@ use Rattle.perm_core.specs.Core.{core}
 use Rattle.perm_core.specs.Regions.{Zone, Base, Region, OwnOf, OfVariable, Labels, is_absent, var_may_lead, calls, zones, top_zone}
 use Rattle.perm_core.specs.Picture.{context_of, value_fits, variables_fit, lent_right, lent_fits, result_fits, stack_fits, tree_fits, object_fits, valued, hidden_above, context_above, RestGoes, none_valued, just_lent, just_taken, stack_hidden}
 use Rattle.perm_core.specs.NextPicture.{moved, goal_of, goal_into, consumed_moves, tie_moves, return_moves}
-use Rattle.perm_core.proofs.LeafOperations.{looked-up}
+use Rattle.perm_core.proofs.Commute.LeafOperations.{looked-up}
 use Rattle.perm_core.proofs.KeepsPicture.Turns.Arguments.{Comes, argument-comes}
 use Rattle.perm_core.proofs.KeepsPicture.Turns.AssignTurns.{moves, moves-good, moves-own, moves-lower, moves-fields}
 use Rattle.perm_core.proofs.KeepsPicture.Calls.CallEnds.{StartsLow, stack-stays, goal-there, into-there}

@@ -14,7 +14,7 @@ use Rattle.perm_meaning.proofs.SameName.{together}
 use Rattle.perm_meaning.proofs.Leads.{some_inj}
 use Rattle.perm_core.specs.Regions.{Zone, Base, Region, OwnOf, OfVariable, Labels, same_region, var_may_lead, calls, zones, top_zone}
 use Rattle.perm_core.specs.Picture.{context_of, value_fits, variable_fits, variables_fit, lent_right, lent_fits, result_fits, stack_fits}
-use Rattle.perm_core.proofs.LeadsTo.{Holds, holds}
+use Rattle.perm_core.proofs.Commute.LeadsTo.{Holds, holds}
 use Rattle.perm_core.proofs.KeepsPicture.Labels.Relabellings.{Good, is-same, region-true, var-carry, value-carry}
 
 -- ---------- variables one by one ----------

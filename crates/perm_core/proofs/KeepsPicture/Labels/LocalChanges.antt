@@ -13,8 +13,8 @@ use Rattle.perm_tree.specs.declared.ast.Shape.{Shape}
 use Rattle.perm_core.specs.Regions.{Zone, Base, Under, Region, OwnOf, OfVariable, OfField, Loose, Labels, same_zone, same_region, is_absent}
 use Rattle.perm_core.specs.Picture.{has_shape}
 use Rattle.perm_core.specs.NextPicture.{Renaming, Moves, Ends, Joins, Renamings, Change, renamed, moved, zone_joined, label_new, relabelled, no_change}
-use Rattle.perm_core.proofs.LeadsTo.{zone-true}
-use Rattle.perm_core.proofs.ZonesApart.{IsOutside, base}
+use Rattle.perm_core.proofs.Commute.LeadsTo.{zone-true}
+use Rattle.perm_core.proofs.Commute.ZonesApart.{IsOutside, base}
 use Rattle.perm_core.proofs.KeepsPicture.Trees.NodePremises.{differ-way, under-outside, outside-rooted}
 use Rattle.perm_core.proofs.KeepsPicture.Labels.OtherHeaps.{KeepsShapes, after-keeps}
 use Rattle.perm_core.proofs.KeepsPicture.Labels.Relabellings.{Good, Sees, frozen, within, across, sees, visible, good-none, good-then, good-moves, good-ends, good-joins, of_variable, of_field, MayJoin}

@@ -32,8 +32,8 @@ use Rattle.perm_core.specs.Core.{core}
 use Rattle.perm_core.specs.Regions.{Zone, Region, Frozen, OwnOf, OfVariable, OfField, Loose, Absent, Labels, same_region, var_may_lead, field_may_lead, calls, top_zone}
 use Rattle.perm_core.specs.Picture.{context_of, has_shape, value_fits, variables_fit, stack_fits, tree_fits, object_fits, valued, context_above, RestGoes}
 use Rattle.perm_core.specs.NextPicture.{Moves, moved, relabelled, no_change, moving, field_region, is_immutable, instruction_change}
-use Rattle.perm_core.proofs.LeadsTo.{frozen-true}
-use Rattle.perm_core.proofs.Unstuck.{there, object-type, array-type}
+use Rattle.perm_core.proofs.Commute.LeadsTo.{frozen-true}
+use Rattle.perm_core.proofs.Progress.Unstuck.{there, object-type, array-type}
 use Rattle.perm_core.proofs.KeepsPicture.Turns.Arguments.{kinds-fit}
 use Rattle.perm_core.proofs.KeepsPicture.Turns.Arrivals.{thawed, loaded}
 use Rattle.perm_core.proofs.KeepsPicture.Labels.CarriedValues.{to-all}

@@ -35,8 +35,8 @@ use Rattle.perm_core.specs.Core.{core}
 use Rattle.perm_core.specs.Regions.{Zone, Region, Absent, Frozen, OwnOf, OfVariable, OfField, Loose, Labels, same_region, is_absent, is_frozen, var_may_lead, field_may_lead, calls, top_zone}
 use Rattle.perm_core.specs.Picture.{context_of, has_shape, value_fits, variables_fit, stack_fits, tree_fits, class_fits, values_fit, object_fits, valued, context_above, RestGoes}
 use Rattle.perm_core.specs.NextPicture.{Moves, renamed, moved, goal, goal_of, goal_at, field_region}
-use Rattle.perm_core.proofs.LeadsTo.{own-true, variable-true}
-use Rattle.perm_core.proofs.Unstuck.{there, object-type}
+use Rattle.perm_core.proofs.Commute.LeadsTo.{own-true, variable-true}
+use Rattle.perm_core.proofs.Progress.Unstuck.{there, object-type}
 use Rattle.perm_core.proofs.KeepsPicture.Calls.CallEnds.{set-cases, set-length, goal-there, goal-leads}
 use Rattle.perm_core.proofs.KeepsPicture.Labels.CarriedValues.{to-all}
 use Rattle.perm_core.proofs.KeepsPicture.Objects.FieldMoves.{MovesFields, variables-after, stack-after}

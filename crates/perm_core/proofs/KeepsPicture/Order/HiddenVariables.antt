@@ -23,7 +23,7 @@ use Rattle.perm_meaning.proofs.Leads.{none_some}
 use Rattle.perm_meaning.proofs.SameName.{together, eq_itself, eq_true}
 use Rattle.perm_core.specs.Core.{core}
 use Rattle.perm_core.specs.Picture.{context_of, valued, hidden_above, just_lent, just_taken, context_above, RestGoes, TreeGoes, stack_right, tree_right, none_valued, only_valued, stack_hidden, branch_hidden, tree_hidden}
-use Rattle.perm_core.proofs.Conflicts.{unfailed}
+use Rattle.perm_core.proofs.Commute.Conflicts.{unfailed}
 use Rattle.perm_core.proofs.KeepsPicture.Calls.CallEnds.{any-left, any-right}
 use Rattle.perm_core.proofs.KeepsPicture.Order.ValueSets.{none-fewer}
 use Rattle.perm_core.proofs.KeepsPicture.Order.HiddenFree.{hidden-free}

@@ -17,7 +17,7 @@ use Rattle.perm_meaning.specs.NamedHeap.{Held, Op, Own}
 use Rattle.perm_meaning.specs.Effects.{Load, Take, Make}
 use Rattle.perm_meaning.proofs.SameName.{together, eq_itself, eq_true}
 use Rattle.perm_core.specs.Picture.{has_value, valued}
-use Rattle.perm_core.proofs.TwoOperations.{get-beside}
+use Rattle.perm_core.proofs.Commute.TwoOperations.{get-beside}
 use Rattle.perm_core.proofs.KeepsPicture.Order.ValuedLists.{has-of, valued-of}
 use Rattle.perm_core.proofs.KeepsPicture.Turns.LeafTurns as turns
 use Rattle.perm_core.proofs.KeepsPicture.Turns.LeafTurns.{Evaluates, no_more, plain, Gives_one, plain_one, consumes_one, Acts, loads, measures, reads, takes, stores, writes, prints}

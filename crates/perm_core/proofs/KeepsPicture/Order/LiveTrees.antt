@@ -30,7 +30,7 @@ use Rattle.perm_core.specs.Endings.{Ending, ByNothing, is_by_return, is_open, st
 use Rattle.perm_core.specs.Marked.{calls_right}
 use Rattle.perm_core.specs.Regions.{Zone, Base, Labels, calls, zones, top_zone, left_zone, right_zone}
 use Rattle.perm_core.specs.Picture.{context_of, mode_in, variables_fit, stack_fits, lent_right, lent_fits, result_fits, branch_fits, tree_fits, has_end, valued, hidden_above, lowest, stands_in, sides_stand, RestGoes, live_joined, HasFailed, TreeGoes, stack_right, tree_right, none_valued, only_valued, stack_hidden, branch_hidden, tree_hidden}
-use Rattle.perm_core.proofs.Conflicts.{unfailed}
+use Rattle.perm_core.proofs.Commute.Conflicts.{unfailed}
 use Rattle.perm_core.proofs.KeepsPicture.Calls.CallEnds.{get-less}
 use Rattle.perm_core.proofs.KeepsPicture.Labels.CarriedValues.{to-all}
 use Rattle.perm_core.proofs.KeepsPicture.Order.GoesOfTrees.{Further, rest-more, goes-left, goes-right}

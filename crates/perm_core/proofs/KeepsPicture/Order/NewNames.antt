@@ -11,8 +11,8 @@ use Rattle.perm_meaning.specs.Values.{Value, Null}
 use Rattle.perm_meaning.proofs.SameName.{name_true}
 use Rattle.perm_core.specs.Core.{core}
 use Rattle.perm_core.specs.Picture.{IsBelow, MayGive, next, later, MayBeGiven, path_of, PathsFit}
-use Rattle.perm_core.proofs.NamesToCome.{below-itself, below-parent, below-length, one-side, left-not-right}
-use Rattle.perm_core.proofs.TwoOperations.{Makes}
+use Rattle.perm_core.proofs.Commute.NamesToCome.{below-itself, below-parent, below-length, one-side, left-not-right}
+use Rattle.perm_core.proofs.Commute.TwoOperations.{Makes}
 use Rattle.perm_core.proofs.KeepsPicture.Turns.LeafTurns.{Acts, declares, assigns, loads, measures, reads, takes, stores, writes, prints, TurnTo, dying, ending, acting, making, beginning, left_block, right_block, into_loop, out_of_loop, parting, recovering, giving, returning}
 use Rattle.perm_core.proofs.KeepsPicture.Trees.TreeEvents.{EventAt, refused_leaf, told_leaf, joining, on_left, on_right}
 use Rattle.perm_core.proofs.KeepsPicture.Order.Sides.{settled-path}

@@ -26,7 +26,7 @@ use Rattle.perm_tree.specs.Code.{Tie, Shares, Raises, Lends}
 use Rattle.perm_core.specs.Regions.{Zone, Base, Under, Region, OwnOf, OfVariable, OfField, Labels, same_way, same_zone, same_region, may_read, var_may_lead, calls, zones, top_zone, left_zone, right_zone}
 use Rattle.perm_core.specs.Picture.{value_fits, variables_fit, stack_fits, object_fits}
 use Rattle.perm_core.specs.NextPicture.{Renamings, renamed, moved, zone_joined, numbers, isolated_among, handed, zone_moves}
-use Rattle.perm_core.proofs.LeadsTo.{zone-true}
+use Rattle.perm_core.proofs.Commute.LeadsTo.{zone-true}
 use Rattle.perm_core.proofs.KeepsPicture.Labels.Relabellings.{Good, good-then, good-all, AllGood, good-moves, good-joins, MayJoin, of_variable, way-same, zone-same, FieldsStay, object-carry, value-carry, var-carry, tied-carry}
 use Rattle.perm_core.proofs.KeepsPicture.Labels.CarriedValues.{AllFit, to-all, from-all, one-carry, LentStays, StackStays, stack-carry}
 use Rattle.perm_core.proofs.KeepsPicture.Calls.CallEnds.{get-less}

@@ -15,9 +15,9 @@ use Rattle.perm_core.specs.Endings.{Ending, ByReturn, ByNothing, is_settled, sta
 use Rattle.perm_core.specs.Regions.{Zone, Base, Under, Labels, same_way, calls, top_zone, left_zone, right_zone}
 use Rattle.perm_core.specs.Picture.{context_of, mode_in, variables_fit, stack_fits, has_end, object_fits, valued, hidden_above, RestGoes, TreeGoes, stack_right, none_valued, stack_hidden, MayBeGiven, next, PathsFit, IsPicture}
 use Rattle.perm_core.specs.NextPicture.{is_rooted}
-use Rattle.perm_core.proofs.Conflicts.{unfailed}
-use Rattle.perm_core.proofs.LeadsTo.{way-true}
-use Rattle.perm_core.proofs.ZonesApart.{IsInjective, IsOutside, IsAbove, side_at, side_zone, side-injective, sides-differ, above-differs, above-top, above-side}
+use Rattle.perm_core.proofs.Commute.Conflicts.{unfailed}
+use Rattle.perm_core.proofs.Commute.LeadsTo.{way-true}
+use Rattle.perm_core.proofs.Commute.ZonesApart.{IsInjective, IsOutside, IsAbove, side_at, side_zone, side-injective, sides-differ, above-differs, above-top, above-side}
 use Rattle.perm_core.proofs.KeepsPicture.Calls.CallEnds.{StartsLow}
 use Rattle.perm_core.proofs.KeepsPicture.Pars.Joins.{Avoids}
 use Rattle.perm_core.proofs.KeepsPicture.Order.LiveTrees.{Premises, left-premises, right-premises}

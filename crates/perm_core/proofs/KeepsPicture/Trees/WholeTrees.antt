@@ -17,7 +17,7 @@ use Rattle.perm_core.specs.Endings.{Ending, ByReturn, ByNothing}
 use Rattle.perm_core.specs.Regions.{Zone, Base, Under, Labels, top_zone, left_zone, right_zone}
 use Rattle.perm_core.specs.Picture.{mode_in, branch_fits, tree_fits, object_fits, hidden_above, IsPicture}
 use Rattle.perm_core.specs.NextPicture.{relabelled, change, unless_refused, next_picture}
-use Rattle.perm_core.proofs.ZonesApart.{IsInjective, IsOutside, IsAbove, Reads, base, on_side, side_at, side_zone, other_side, sides-differ, above-differs, above-top, split-sides}
+use Rattle.perm_core.proofs.Commute.ZonesApart.{IsInjective, IsOutside, IsAbove, Reads, base, on_side, side_at, side_zone, other_side, sides-differ, above-differs, above-top, split-sides}
 use Rattle.perm_core.proofs.KeepsPicture.Labels.Beside.{IsAside, branch-carry, tree-carry}
 use Rattle.perm_core.proofs.KeepsPicture.Labels.LocalChanges.{IsAround}
 use Rattle.perm_core.proofs.KeepsPicture.Trees.NodePremises.{NodeFits, left-node, right-node, root-node}

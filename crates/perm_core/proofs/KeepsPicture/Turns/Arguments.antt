@@ -32,7 +32,7 @@ use Rattle.perm_meaning.proofs.SameName.{eq_itself}
 use Rattle.perm_core.specs.Regions.{Zone, Region, OwnOf, OfVariable, Labels, var_may_lead}
 use Rattle.perm_core.specs.Picture.{value_fits, valued}
 use Rattle.perm_core.specs.NextPicture.{Moves, moved, goal, goal_of, consumed_moves}
-use Rattle.perm_core.proofs.Evaluation.{IsOfType, IsOfSort, Evaluates, AreTyped, term-evaluates}
+use Rattle.perm_core.proofs.Progress.Evaluation.{IsOfType, IsOfSort, Evaluates, AreTyped, term-evaluates}
 use Rattle.perm_core.proofs.KeepsPicture.Turns.Arrivals.{went, arrives}
 use Rattle.perm_core.proofs.KeepsPicture.Calls.CallEnds.{get-less}
 use Rattle.perm_core.proofs.KeepsPicture.Labels.CarriedValues.{AllFit}

@@ -9,7 +9,7 @@ use Rattle.perm_perm.specs.Order.{is_at_most}
 use Rattle.perm_meaning.proofs.Leads.{some_inj, none_some}
 use Rattle.perm_core.specs.Regions.{Zone, Base, Under, Region, Frozen, OwnOf, same_zone, same_region, is_frozen, may_read, is_visible, var_may_lead, field_may_lead}
 use Rattle.perm_core.specs.NextPicture.{goal}
-use Rattle.perm_core.proofs.LeadsTo.{zone-true, frozen-true}
+use Rattle.perm_core.proofs.Commute.LeadsTo.{zone-true, frozen-true}
 use Rattle.perm_core.proofs.KeepsPicture.Labels.Relabellings.{Sees, frozen, within, across, sees, visible, own-inj, is-same, region-true}
 use Rattle.perm_core.proofs.KeepsPicture.Calls.CallEnds.{goal-leads, weaker}
 

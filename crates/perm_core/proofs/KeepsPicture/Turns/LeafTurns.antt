@@ -20,7 +20,7 @@ use Rattle.perm_meaning.specs.Machine.{Frame, OpenBlock, OpenRecover, OpenCall, 
 use Rattle.perm_meaning.specs.NamedHeap.{Held, Op, Own, marks}
 use Rattle.perm_meaning.specs.Turns as turns
 use Rattle.perm_meaning.specs.Turns.{blocks, lent_back, tick, trap, called, returned, acted, turn_of, by_truth, on_test, given_back, turn}
-use Rattle.perm_core.proofs.LeafOperations.{looked-up, referred-to}
+use Rattle.perm_core.proofs.Commute.LeafOperations.{looked-up, referred-to}
 
 -- ---------- arguments ----------
 -- arguments are evaluated one after the other, from some variables to others; what is consumed loses its value

@@ -6,10 +6,10 @@ use Rattle.perm_meaning.specs.Steps.{Lone, Run, lone_task, lone_of, lone_way, lo
 use Rattle.perm_core.specs.Bag.{Picks, IsIn, IsDistinct}
 use Rattle.perm_core.specs.Pieces.{AtRoot, OnRightSide, Numbered, Piece, Held, One, Two, held_task, pieces, numbers, AllOver, IsAsideIn}
 use Rattle.perm_core.specs.Claims.{piece, HeldAfter, ChangesOne, Sides, JoinsTwo, SplitsOne, TurnOfPiece, SplitOfPiece, JoinOfPieces, OfOne, OfTwo, EventOfPieces}
-use Rattle.perm_core.proofs.Bags.{picks-mid, distinct-put, distinct-out}
-use Rattle.perm_core.proofs.Holes.{Round, plug, at_hole, foot_at, parents_at, before, behind, cut-plug, numbers_before, numbers_behind, numbers-plug, over-plug, over-in, Spot, find, look-plug, fill-plug}
-use Rattle.perm_core.proofs.HeldEvents.{joined-held, lone-event, joined-over, lone-over, join-sides, AtHolder, AtJoin, each-event}
-use Rattle.perm_core.proofs.RightSides.{Pair, find-pair}
+use Rattle.perm_core.proofs.Pieces.Bags.{picks-mid, distinct-put, distinct-out}
+use Rattle.perm_core.proofs.Pieces.Holes.{Round, plug, at_hole, foot_at, parents_at, before, behind, cut-plug, numbers_before, numbers_behind, numbers-plug, over-plug, over-in, Spot, find, look-plug, fill-plug}
+use Rattle.perm_core.proofs.Pieces.HeldEvents.{joined-held, lone-event, joined-over, lone-over, join-sides, AtHolder, AtJoin, each-event}
+use Rattle.perm_core.proofs.Pieces.RightSides.{Pair, find-pair}
 
 module _ {V G O : Type 0} (m : Machine V G O) where
   -- ---------- the pieces in a hole and round it ----------

@@ -2,7 +2,7 @@
 use Rattle.std.proofs.Common.{◌≡◌, ◌≢◌, Option, Some, refl, sym, ap, ◌∙◌}
 use Rattle.perm_meaning.specs.Machine.{Task, Leaf, Fork, Way, Here, GoL, GoR, Machine, look, fill}
 use Rattle.perm_meaning.proofs.Leads.{none_some, ended_no_event}
-use Rattle.perm_core.proofs.HeldEvents.{join-sides}
+use Rattle.perm_core.proofs.Pieces.HeldEvents.{join-sides}
 
 -- neither of the nodes is above the other
 abbrev pub AreApart : Way → Way → Type 0

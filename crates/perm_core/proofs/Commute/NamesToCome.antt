@@ -6,7 +6,7 @@ use Rattle.perm_meaning.specs.NamedHeap.{Branch, Task}
 use Rattle.perm_meaning.proofs.Leads.{some_inj, none_some}
 use Rattle.perm_core.specs.Claims.{leaf_at}
 use Rattle.perm_core.specs.Picture.{IsBelow, MayGive, next, MayBeGiven, path_of, PathsFit}
-use Rattle.perm_core.proofs.TwoNodes.{AreApart}
+use Rattle.perm_core.proofs.Commute.TwoNodes.{AreApart}
 
 -- ---------- paths ----------
 pub below-itself : (p : Path) → IsBelow p p

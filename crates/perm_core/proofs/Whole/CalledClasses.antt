@@ -17,7 +17,7 @@ use Rattle.perm_tree.proofs.TableLaws.{HasTable}
 use Rattle.perm_meaning.proofs.Leads.{some_inj, none_some}
 use Rattle.perm_meaning.proofs.SameName.{eq_true, eq_itself}
 use Rattle.perm_core.specs.Marked.{is_called_on}
-use Rattle.perm_core.proofs.WholeTypes.{IsResolved-table}
+use Rattle.perm_core.proofs.Whole.WholeTypes.{IsResolved-table}
 
 -- what is found passes the test
 found-passes : {A : Type 0} (p : A → Bool) (xs : List A) (x : A) → find p xs ≡ Some x → p x ≡ true

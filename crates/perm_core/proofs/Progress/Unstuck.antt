@@ -32,7 +32,7 @@ use Rattle.perm_meaning.proofs.SameName.{eq_itself}
 use Rattle.perm_core.specs.Whole.{is_known_type}
 use Rattle.perm_core.specs.Regions.{Labels}
 use Rattle.perm_core.specs.Picture.{has_shape, object_fits}
-use Rattle.perm_core.proofs.Evaluation.{IsOfType, AreTyped, plain-long, term-evaluates}
+use Rattle.perm_core.proofs.Progress.Evaluation.{IsOfType, AreTyped, plain-long, term-evaluates}
 use Rattle.perm_core.proofs.Progress.{GoesOn, value-goes, number-goes, index-goes, length-goes, limit-goes, object-goes, argument-goes, call-goes, field-there, item-there}
 
 -- ---------- known types ----------

@@ -27,8 +27,8 @@ use Rattle.perm_rules.specs.Goes.{context}
 use Rattle.perm_rules.specs.Parts.{Context, type_of}
 use Rattle.perm_core.specs.Endings.{Ending, ByNothing, ByGive, ByReturn, ends}
 use Rattle.perm_core.specs.Marked.{same_tie, is_called_on, call_right, calls_right}
-use Rattle.perm_core.proofs.CalledClasses.{called-on}
-use Rattle.perm_core.proofs.WholeTypes.{entries_from-each, IsResolved-table}
+use Rattle.perm_core.proofs.Whole.CalledClasses.{called-on}
+use Rattle.perm_core.proofs.Whole.WholeTypes.{entries_from-each, IsResolved-table}
 
 -- ---------- calls ----------
 same_tie-refl : (t : Tie) → same_tie t t ≡ true

@@ -10,7 +10,7 @@ use Rattle.perm_meaning.specs.NamedHeap.{Held, Task}
 use Rattle.perm_meaning.proofs.Leads.{some_inj, none_some}
 use Rattle.perm_core.specs.Regions.{Zone, Base, Under, Region, Frozen, OwnOf, OfVariable, zones, top_zone, left_zone, right_zone}
 use Rattle.perm_core.specs.Picture.{mode_in}
-use Rattle.perm_core.proofs.TwoNodes.{AreApart}
+use Rattle.perm_core.proofs.Commute.TwoNodes.{AreApart}
 
 -- ---------- zones ----------
 -- the node at which a zone begins

@@ -5,7 +5,7 @@ use Rattle.perm_meaning.specs.Machine.{Branch, Task, Leaf, Fork, Blocks, Way, He
 use Rattle.perm_meaning.specs.Steps.{Lone, Run, KeptRight, KeptLeft, lone_task, lone_of, lone_way, lone_on, left_side_way, right_side_way, after_left, after_right, AreOver}
 use Rattle.perm_meaning.proofs.Leads.{none_some, ended_no_event, unended}
 use Rattle.perm_core.specs.Pieces.{Numbered, Held, One, Two, held_task, AllOver, IsAside, IsAsideIn}
-use Rattle.perm_core.proofs.Holes.{Round, Hole, OnLeft, OnRight, plug, at_hole}
+use Rattle.perm_core.proofs.Pieces.Holes.{Round, Hole, OnLeft, OnRight, plug, at_hole}
 
 module _ {V G : Type 0} where
   -- the event is the next one of a holder

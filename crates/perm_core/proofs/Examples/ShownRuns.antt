@@ -19,8 +19,8 @@ use Rattle.perm_meaning.proofs.Shown.{code}
 use Rattle.perm_core.specs.Core as core
 use Rattle.perm_meaning.specs.Outcome as outcomes
 use Rattle.perm_core.specs.WordCore as word_core
-use Rattle.perm_core.proofs.RegionPrograms.{moving_regions, failing_regions}
-use Rattle.perm_core.proofs.Schedules.{Policy, LeftFirst, RightFirst, InTurn, next_policy, next_way}
+use Rattle.perm_core.proofs.Examples.RegionPrograms.{moving_regions, failing_regions}
+use Rattle.perm_core.proofs.Examples.Schedules.{Policy, LeftFirst, RightFirst, InTurn, next_policy, next_way}
 
 -- the bases of the objects that were made
 abbrev Based : Type 0

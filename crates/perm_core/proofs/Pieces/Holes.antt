@@ -4,7 +4,7 @@ use Rattle.std.specs.Prelude.{◌⊎◌}
 use Rattle.perm_meaning.specs.Machine.{Machine, Fork, Way, GoL, GoR, look, fill}
 use Rattle.perm_core.specs.Bag.{Picks}
 use Rattle.perm_core.specs.Pieces.{Foot, OnRightSide, Numbered, Piece, Held, One, Two, held_task, cut, numbers, AllOver}
-use Rattle.perm_core.proofs.Bags.{picks-split}
+use Rattle.perm_core.proofs.Pieces.Bags.{picks-split}
 
 -- a tree with a hole
 pub data Round (V G : Type 0) : Type 0 where

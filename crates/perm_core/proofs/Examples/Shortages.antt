@@ -1,9 +1,9 @@
 -- The picture stands too where turns or words run out in the midst of calls, recover blocks and pars, by computation.
 use Rattle.std.specs.Prelude.{◌≡◌, ℕ, ◌+◌, true, List, [], ◌∷◌, refl}
 use Rattle.perm_tree.proofs.Builder.{Source}
-use Rattle.perm_core.proofs.RegionPrograms.{moving_regions, failing_regions}
-use Rattle.perm_core.proofs.Schedules.{Policy, LeftFirst, RightFirst, InTurn}
-use Rattle.perm_core.proofs.PictureTest.{first_bad}
+use Rattle.perm_core.proofs.Examples.RegionPrograms.{moving_regions, failing_regions}
+use Rattle.perm_core.proofs.Examples.Schedules.{Policy, LeftFirst, RightFirst, InTurn}
+use Rattle.perm_core.proofs.Examples.PictureTest.{first_bad}
 
 -- how many states are without a picture in runs with so many turns each
 abbrev short_of_turns : Source → Policy → List ℕ → ℕ

@@ -13,8 +13,8 @@ use Rattle.perm_meaning.specs.Steps.{Answer, Found, Refused, Missing, within, ne
 use Rattle.perm_meaning.proofs.Leads.{some_inj, none_some}
 use Rattle.perm_core.specs.Core.{core, look, step}
 use Rattle.perm_core.specs.Claims.{Refuses, refused}
-use Rattle.perm_core.proofs.TwoNodes.{AreApart, apart-turned, two-events-apart, look-beside, fills-turned}
-use Rattle.perm_core.proofs.TwoOperations.{Spares, IsGranted, operations-turned, found-as-before}
+use Rattle.perm_core.proofs.Commute.TwoNodes.{AreApart, apart-turned, two-events-apart, look-beside, fills-turned}
+use Rattle.perm_core.proofs.Commute.TwoOperations.{Spares, IsGranted, operations-turned, found-as-before}
 
 module _ (u : UnitCode) (limit : ℕ) where
   abbrev fits : ℕ → Bool

@@ -4,8 +4,8 @@ use Rattle.std.specs.Prelude.{◌⊎◌}
 use Rattle.perm_meaning.specs.Steps.{Lone}
 use Rattle.perm_core.specs.Bag.{Picks, IsIn, IsDistinct}
 use Rattle.perm_core.specs.Pieces.{Foot, AtRoot, OnRightSide, Numbered, Piece, Held, One, Two, cut, pieces, numbers}
-use Rattle.perm_core.proofs.Bags.{picks-split, picks-in, in-left, in-right, in-split, distinct-out}
-use Rattle.perm_core.proofs.Holes.{Round, Hole, OnLeft, OnRight, plug, foot_at, parents_at, before, behind, numbers_before, numbers_behind, numbers-plug, Spot, find}
+use Rattle.perm_core.proofs.Pieces.Bags.{picks-split, picks-in, in-left, in-right, in-split, distinct-out}
+use Rattle.perm_core.proofs.Pieces.Holes.{Round, Hole, OnLeft, OnRight, plug, foot_at, parents_at, before, behind, numbers_before, numbers_behind, numbers-plug, Spot, find}
 
 -- the foot of the right side of this number
 abbrev pub right_of : ℕ → Foot

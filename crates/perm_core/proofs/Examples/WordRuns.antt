@@ -8,8 +8,8 @@ use Rattle.perm_meaning.specs.Machine.{Leaf, Fork, Way, Here, GoL, GoR, Failure,
 use Rattle.perm_meaning.proofs.Shown.{code}
 use Rattle.perm_meaning.specs.WordHeap.{Task, State, opening_state}
 use Rattle.perm_core.specs.WordCore.{step}
-use Rattle.perm_core.proofs.RegionPrograms.{moving_regions, failing_regions}
-use Rattle.perm_core.proofs.Schedules.{Policy, LeftFirst, RightFirst, InTurn, prefers_left, next_policy, in_order}
+use Rattle.perm_core.proofs.Examples.RegionPrograms.{moving_regions, failing_regions}
+use Rattle.perm_core.proofs.Examples.Schedules.{Policy, LeftFirst, RightFirst, InTurn, prefers_left, next_policy, in_order}
 
 abbrev ways : Bool → Task → List Way
 ways left (Leaf b) = Here ∷ []

@@ -18,8 +18,8 @@ use Rattle.perm_meaning.specs.Machine.{Way, Frame, OpenBlock, OpenRecover, OpenC
 use Rattle.perm_meaning.specs.Custody.{Moves}
 use Rattle.perm_meaning.specs.Turns as turns
 use Rattle.perm_meaning.specs.Turns.{blocks, tick, trap, returned, turn_of, by_truth, on_test, given_back, turn}
-use Rattle.perm_core.proofs.ZonesApart.{MayWrite, MayTouch, write}
-use Rattle.perm_core.proofs.TwoOperations.{Makes}
+use Rattle.perm_core.proofs.Commute.ZonesApart.{MayWrite, MayTouch, write}
+use Rattle.perm_core.proofs.Commute.TwoOperations.{Makes}
 
 -- ---------- variables ----------
 -- what the later variables refer to, the former refer to as well

@@ -11,8 +11,8 @@ use Rattle.perm_tree.proofs.RoutineLaws.{HasVars, IsResolved-vars}
 use Rattle.perm_tree.proofs.RunLaw.{HasRun, IsResolved-run, good_run-types}
 use Rattle.perm_core.specs.Whole.{IsWholeRoutine, IsRun, IsWhole}
 use Rattle.perm_rules.proofs.Pars.{IsResolved-scoped}
-use Rattle.perm_core.proofs.WholeCode.{IsResolved-returns, IsResolved-calls}
-use Rattle.perm_core.proofs.WholeTypes.{IsResolved-known, IsResolved-fields, method-class_within}
+use Rattle.perm_core.proofs.Whole.WholeCode.{IsResolved-returns, IsResolved-calls}
+use Rattle.perm_core.proofs.Whole.WholeTypes.{IsResolved-known, IsResolved-fields, method-class_within}
 
 routine-whole : (u : Tables) (at : ℕ) (r : Routine) → IsResolved u → slice_get (code_of u).routines at ≡ Some r → IsWholeRoutine (code_of u) r
 routine-whole u at r is here = by_vars (IsResolved-vars u at r is here)

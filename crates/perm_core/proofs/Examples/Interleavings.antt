@@ -9,7 +9,7 @@ use Rattle.perm_meaning.specs.NamedHeap.{State}
 use Rattle.perm_meaning.specs.Outcome.{Outcome, opening_state}
 use Rattle.perm_meaning.proofs.Shown.{Shown, ShowsStuck, IsDone, TrapsAt, IsOutOfTurns, Shows, ShowsFull, code, shown}
 use Rattle.perm_core.specs.Core.{runs, core_outcome}
-use Rattle.perm_core.proofs.Schedules.{Policy, LeftFirst, RightFirst, InTurn, outcome_under}
+use Rattle.perm_core.proofs.Examples.Schedules.{Policy, LeftFirst, RightFirst, InTurn, outcome_under}
 
 abbrev shown_if : Source → Option Outcome → Shown
 shown_if s None = ShowsStuck
