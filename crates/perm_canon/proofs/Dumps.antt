@@ -6,7 +6,7 @@ use Rattle.perm_tree.proofs.Programs.{p1, p2, p12, p14}
 use Rattle.perm_tree.proofs.ParPrograms.{p4}
 use Rattle.perm_meaning.specs.Names.{same_name, root_name}
 use Rattle.perm_meaning.specs.Outcome.{Outcome, Ran, RanFull, RanStuck, outcome}
-use Rattle.perm_meaning.proofs.Shown.{code, turn_limit, heap_words}
+use Rattle.perm_meaning.proofs.Examples.Shown.{code, turn_limit, heap_words}
 use Rattle.perm_meaning.specs.Layout.{same_spot, objects_in, root_spot}
 use Rattle.perm_canon.specs.DumpText.{dump_text}
 use Rattle.perm_canon.proofs.Walk.{walk}

@@ -13,12 +13,12 @@ use Rattle.perm_meaning.specs.Shows.{Bases, IsWordOf, AnyMark, IsShown, IsShownB
 use Rattle.perm_meaning.specs.Steps.{next_state, asked, within}
 use Rattle.perm_meaning.specs.WordHeap as worded
 use Rattle.perm_meaning.specs.WordHeap.{Ask}
-use Rattle.perm_meaning.proofs.KeptEvents.{IsKept, keeps_step}
+use Rattle.perm_meaning.proofs.OnWords.KeptEvents.{IsKept, keeps_step}
 use Rattle.perm_meaning.proofs.Leads.{some_inj, none_some}
-use Rattle.perm_meaning.proofs.Moved.{routine_fits}
-use Rattle.perm_meaning.proofs.OpeningShown.{opening_bases, opening_kept, opening_shown}
-use Rattle.perm_meaning.proofs.Related.{StageR, stage_alike, final_alike}
-use Rattle.perm_meaning.proofs.WordsRun.{within_small, words_step}
+use Rattle.perm_meaning.proofs.OnWords.Moved.{routine_fits}
+use Rattle.perm_meaning.proofs.OnWords.OpeningShown.{opening_bases, opening_kept, opening_shown}
+use Rattle.perm_meaning.proofs.OnWords.Related.{StageR, stage_alike, final_alike}
+use Rattle.perm_meaning.proofs.OnWords.WordsRun.{within_small, words_step}
 use Rattle.perm_meaning.specs.Outcome.{opening_state}
 use Rattle.perm_core.specs.Core.{core, look, step, runs}
 use Rattle.perm_core.specs.WordCore as word_core

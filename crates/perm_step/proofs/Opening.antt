@@ -9,7 +9,7 @@ use Rattle.perm_meaning.specs.WordHeap.{opening_word, input_word, root_word}
 use Rattle.perm_meaning.specs.Words.{number_word, reference_word}
 use Rattle.perm_step.specs.Rounds.{IsOpened}
 use Rattle.perm_step.specs.Workspace.{Workspace, locals}
-use Rattle.perm_meaning.proofs.OpeningShown.{past_input}
+use Rattle.perm_meaning.proofs.OnWords.OpeningShown.{past_input}
 use Rattle.perm_step.proofs.Cells.{more_words}
 
 -- ---------- the words of the opening ----------

@@ -20,9 +20,9 @@ use Rattle.perm_meaning.specs.Objects.{size}
 use Rattle.perm_meaning.specs.Shows.{HeapShown}
 use Rattle.perm_meaning.specs.WordHeap.{Cells, State, worded, memory, opening_state, root_word}
 use Rattle.perm_meaning.specs.Words.{number_in}
-use Rattle.perm_meaning.proofs.Determined.{determined, over_at_rest, refused_at_rest}
+use Rattle.perm_meaning.proofs.LeftFirst.Determined.{determined, over_at_rest, refused_at_rest}
 use Rattle.perm_meaning.proofs.Leads.{some_inj, ended_no_event}
-use Rattle.perm_meaning.proofs.WordsRun.{words_end_as_meaning, words_fill_as_meaning}
+use Rattle.perm_meaning.proofs.OnWords.WordsRun.{words_end_as_meaning, words_fill_as_meaning}
 use Rattle.perm_step.specs.declared.machine.Halt.{Halt}
 use Rattle.perm_step.specs.declared.machine.Halt.TheVariants.{Ended, NoMemory}
 use Rattle.perm_step.specs.Straight.{IsStraight}

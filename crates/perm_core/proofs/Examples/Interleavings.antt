@@ -7,7 +7,7 @@ use Rattle.perm_tree.proofs.ParPrograms.{p3, p4, p9, p10, p11}
 use Rattle.perm_meaning.specs.Machine.{Way, Here, GoL, GoR}
 use Rattle.perm_meaning.specs.NamedHeap.{State}
 use Rattle.perm_meaning.specs.Outcome.{Outcome, opening_state}
-use Rattle.perm_meaning.proofs.Shown.{Shown, ShowsStuck, IsDone, TrapsAt, IsOutOfTurns, Shows, ShowsFull, code, shown}
+use Rattle.perm_meaning.proofs.Examples.Shown.{Shown, ShowsStuck, IsDone, TrapsAt, IsOutOfTurns, Shows, ShowsFull, code, shown}
 use Rattle.perm_core.specs.Core.{runs, core_outcome}
 use Rattle.perm_core.proofs.Examples.Schedules.{Policy, LeftFirst, RightFirst, InTurn, outcome_under}
 

@@ -4,7 +4,7 @@ use Rattle.perm_tree.proofs.Programs.{p1, p2, p5_new, p6_immutable, p12}
 use Rattle.perm_tree.proofs.ParPrograms.{p3, p4, p9, p10, p11}
 use Rattle.perm_tree.specs.declared.errors.TrapKind.TheVariants.{DivideByZero}
 use Rattle.perm_rules.specs.FirstRefused.{unit_refusal}
-use Rattle.perm_meaning.proofs.Shown.{IsDone, TrapsAt, Shows, code, run_plain}
+use Rattle.perm_meaning.proofs.Examples.Shown.{IsDone, TrapsAt, Shows, code, run_plain}
 use Rattle.perm_core.proofs.Examples.RegionPrograms.{moving_regions, failing_regions}
 use Rattle.perm_core.proofs.Examples.Schedules.{LeftFirst, RightFirst, InTurn}
 use Rattle.perm_core.proofs.Examples.PictureTest.{first_bad}

@@ -15,7 +15,7 @@ use Rattle.perm_meaning.specs.NamedHeap as named
 use Rattle.perm_meaning.specs.NamedHeap.{Held, has_room}
 use Rattle.perm_meaning.specs.WordHeap as worded
 use Rattle.perm_meaning.specs.Steps.{within}
-use Rattle.perm_meaning.proofs.Shown.{code}
+use Rattle.perm_meaning.proofs.Examples.Shown.{code}
 use Rattle.perm_core.specs.Core as core
 use Rattle.perm_meaning.specs.Outcome as outcomes
 use Rattle.perm_core.specs.WordCore as word_core

@@ -5,7 +5,7 @@ use Rattle.perm_tree.proofs.Builder.{Source, text_of, place_in}
 use Rattle.perm_tree.proofs.Programs.{p2, p12}
 use Rattle.perm_tree.proofs.ParPrograms.{p3, p4, p11}
 use Rattle.perm_meaning.specs.Machine.{Leaf, Fork, Way, Here, GoL, GoR, Failure, Trapped, NoTurns, Final, GaveBack, Failed, final}
-use Rattle.perm_meaning.proofs.Shown.{code}
+use Rattle.perm_meaning.proofs.Examples.Shown.{code}
 use Rattle.perm_meaning.specs.WordHeap.{Task, State, opening_state}
 use Rattle.perm_core.specs.WordCore.{step}
 use Rattle.perm_core.proofs.Examples.RegionPrograms.{moving_regions, failing_regions}

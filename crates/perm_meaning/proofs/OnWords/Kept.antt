@@ -7,7 +7,7 @@ use Rattle.perm_meaning.specs.Machine.{OpenBlock, OpenRecover, OpenCall, Close, 
 use Rattle.perm_meaning.specs.Machine as machines
 use Rattle.perm_meaning.specs.NamedHeap.{Held, Branch, Task}
 use Rattle.perm_meaning.specs.Literals.{CodeFits}
-use Rattle.perm_meaning.proofs.Moved.{StackFits}
+use Rattle.perm_meaning.proofs.OnWords.Moved.{StackFits}
 
 -- what stands below the code of a branch on names
 abbrev pub Frame : Type 0

@@ -3,7 +3,7 @@ use Rattle.std.specs.Prelude.{◌≡◌, pos, negsuc, [], ◌∷◌, refl}
 use Rattle.perm_tree.specs.declared.errors.TrapKind.TheVariants.{DivideByZero, NullReference, IndexOutOfRange, Overflow, StackOverflow}
 use Rattle.perm_tree.proofs.Programs.{p1, p2, p5_new, p6_immutable, p8, p12, p13, p14}
 use Rattle.perm_tree.proofs.ParPrograms.{p3, p4, p9, p10, p11}
-use Rattle.perm_meaning.proofs.Shown.{IsDone, TrapsAt, IsOutOfTurns, Shows, ShowsFull, run, run_plain, turn_limit, heap_words}
+use Rattle.perm_meaning.proofs.Examples.Shown.{IsDone, TrapsAt, IsOutOfTurns, Shows, ShowsFull, run, run_plain, turn_limit, heap_words}
 
 -- ---------- one branch ----------
 pub two_fields : run_plain p1 [] ≡ Shows (IsDone (pos 0)) (pos 7 ∷ []) 7 5

@@ -17,7 +17,7 @@ use Rattle.perm_meaning.specs.Steps.{Answer, Found, Refused, Missing, granted, a
 use Rattle.perm_meaning.specs.Meaning as meaning
 use Rattle.perm_meaning.specs.Meaning.{Moment, Result, Well, Gave, Handed, Fails, Full, Stuck, set_vars, spend}
 use Rattle.perm_meaning.proofs.Leads.{stay, one}
-use Rattle.perm_meaning.proofs.Reached.{Frame, at_code, going, settles, Reach, Follows, along, more}
+use Rattle.perm_meaning.proofs.LeftFirst.Reached.{Frame, at_code, going, settles, Reach, Follows, along, more}
 
 -- a branch before its turn
 abbrev pub plain : Code → List Frame → Moment → Branch

@@ -21,12 +21,12 @@ use Rattle.perm_meaning.specs.WordHeap.{NoMark, no_marks, worded}
 use Rattle.perm_meaning.specs.Relate.{OptionR, StackR, DidR, TurnR}
 use Rattle.perm_meaning.specs.Shows.{Bases, Grows, IsWordOf, AnyMark}
 use Rattle.perm_meaning.specs.Literals.{CodeFits}
-use Rattle.perm_meaning.proofs.Related.{vars_set, vars_either, vars_merged, stack_up}
-use Rattle.perm_meaning.proofs.Heaps.{word_grows}
-use Rattle.perm_meaning.proofs.NewObjects.{Asks}
-use Rattle.perm_meaning.proofs.Simulate.{Alike}
-use Rattle.perm_meaning.proofs.ExpressionsAlike.{EvalR, look_up_alike, eval_alike, value_alike}
-use Rattle.perm_meaning.proofs.EffectsAlike.{Vars, Owns, clear_alike, clear_all_alike, owns_grow, with_alike, CallingR, ActR, EffectR, effect_alike}
+use Rattle.perm_meaning.proofs.OnWords.Related.{vars_set, vars_either, vars_merged, stack_up}
+use Rattle.perm_meaning.proofs.OnWords.Heaps.{word_grows}
+use Rattle.perm_meaning.proofs.OnWords.NewObjects.{Asks}
+use Rattle.perm_meaning.proofs.OnWords.Simulate.{Alike}
+use Rattle.perm_meaning.proofs.OnWords.ExpressionsAlike.{EvalR, look_up_alike, eval_alike, value_alike}
+use Rattle.perm_meaning.proofs.OnWords.EffectsAlike.{Vars, Owns, clear_alike, clear_all_alike, owns_grow, with_alike, CallingR, ActR, EffectR, effect_alike}
 
 -- ---------- variables that are handed on ----------
 module _ (b : Bases) where

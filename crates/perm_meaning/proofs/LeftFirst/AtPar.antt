@@ -12,8 +12,8 @@ use Rattle.perm_meaning.specs.NamedHeap.{Heap, Held, Branch, Task, Final, State,
 use Rattle.perm_meaning.specs.Steps.{leftmost, leftmost_of, careful, asked_with_care}
 use Rattle.perm_meaning.specs.Meaning.{Moment, Result, Well, Gave, Handed, Fails, Full, Stuck, left_of, right_of, on_final, after_join, par_of}
 use Rattle.perm_meaning.proofs.Leads.{in_left, in_right, stay, one, lead_left, lead_right, unended}
-use Rattle.perm_meaning.proofs.Reached.{Frame, at_code, going, settles, Reach, Follows, along}
-use Rattle.perm_meaning.proofs.OneTurn.{plain, at_empty, TurnTo}
+use Rattle.perm_meaning.proofs.LeftFirst.Reached.{Frame, at_code, going, settles, Reach, Follows, along}
+use Rattle.perm_meaning.proofs.LeftFirst.OneTurn.{plain, at_empty, TurnTo}
 
 -- ---------- the rules of the join ----------
 -- the end of a side that wasn't for want of room

@@ -22,15 +22,15 @@ use Rattle.perm_meaning.specs.Outcome.{Outcome, Report, Ran, RanFull, RanStuck, 
 use Rattle.perm_meaning.specs.Told.{IsTold}
 use Rattle.perm_meaning.specs.Claims.{BeginsOnWords, AfterLeftFirstOnWords, WordsShowNames, WordsEndAsMeaning, WordsFillAsMeaning}
 use Rattle.perm_meaning.proofs.Leads.{some_inj, none_some}
-use Rattle.perm_meaning.proofs.Related.{final_alike, leftmost_alike}
-use Rattle.perm_meaning.proofs.Simulate.{AllFit, IsAlike, IsFit, same_step, same_refusal, same_alone}
-use Rattle.perm_meaning.proofs.NewObjects.{IsSmall, Asks, IsSound, heaps}
-use Rattle.perm_meaning.proofs.TurnsAlike.{IsShort, alike}
-use Rattle.perm_meaning.proofs.Moved.{routine_fits}
-use Rattle.perm_meaning.proofs.Kept.{TaskKept}
-use Rattle.perm_meaning.proofs.KeptEvents.{IsKept, keeps, keeps_step, asks_sound}
-use Rattle.perm_meaning.proofs.OpeningShown.{opening_bases, root_base, opening_shown, opening_kept}
-use Rattle.perm_meaning.proofs.WholeRun.{ends_as_meaning, fills_as_meaning}
+use Rattle.perm_meaning.proofs.OnWords.Related.{final_alike, leftmost_alike}
+use Rattle.perm_meaning.proofs.OnWords.Simulate.{AllFit, IsAlike, IsFit, same_step, same_refusal, same_alone}
+use Rattle.perm_meaning.proofs.OnWords.NewObjects.{IsSmall, Asks, IsSound, heaps}
+use Rattle.perm_meaning.proofs.OnWords.TurnsAlike.{IsShort, alike}
+use Rattle.perm_meaning.proofs.OnWords.Moved.{routine_fits}
+use Rattle.perm_meaning.proofs.OnWords.Kept.{TaskKept}
+use Rattle.perm_meaning.proofs.OnWords.KeptEvents.{IsKept, keeps, keeps_step, asks_sound}
+use Rattle.perm_meaning.proofs.OnWords.OpeningShown.{opening_bases, root_base, opening_shown, opening_kept}
+use Rattle.perm_meaning.proofs.LeftFirst.WholeRun.{ends_as_meaning, fills_as_meaning}
 
 module _ (c : Custody) (u : UnitCode) (uf : UnitFits u) (fits : ℕ → Bool) (small : IsSmall fits) where
   -- each leaf has code with numbers of 64 bits

@@ -16,9 +16,9 @@ use Rattle.perm_meaning.specs.Steps.{Answer, Found, Refused, Missing, answered, 
 use Rattle.perm_meaning.specs.Literals.{CodeFits, UnitFits}
 use Rattle.perm_meaning.proofs.Leads.{some_inj, none_some}
 use Rattle.perm_meaning.proofs.SameName.{name_true}
-use Rattle.perm_meaning.proofs.NewObjects.{IsSound}
-use Rattle.perm_meaning.proofs.Moved.{StackFits, DidMoved, TurnMoved, turn_moved}
-use Rattle.perm_meaning.proofs.Kept.{Frame, Extends, within_parent, not_itself, left_right, right_left, IsBefore, AreBefore, BranchKept, TaskKept, Adds, apart_kept, parent_kept}
+use Rattle.perm_meaning.proofs.OnWords.NewObjects.{IsSound}
+use Rattle.perm_meaning.proofs.OnWords.Moved.{StackFits, DidMoved, TurnMoved, turn_moved}
+use Rattle.perm_meaning.proofs.OnWords.Kept.{Frame, Extends, within_parent, not_itself, left_right, right_left, IsBefore, AreBefore, BranchKept, TaskKept, Adds, apart_kept, parent_kept}
 
 -- ---------- the heap ----------
 -- an operation that makes nothing

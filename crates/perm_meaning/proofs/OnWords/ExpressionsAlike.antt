@@ -18,8 +18,8 @@ use Rattle.perm_meaning.specs.NamedHeap.{Held}
 use Rattle.perm_meaning.specs.Relate.{OptionR, VarsR}
 use Rattle.perm_meaning.specs.Shows.{Bases, IsWordOf}
 use Rattle.perm_meaning.specs.Literals.{TermFits, ArgumentFits}
-use Rattle.perm_meaning.proofs.Related.{vars_at}
-use Rattle.perm_meaning.proofs.Numbers.{number_back, word_below, in_fits, wrapped_fits, equal_words, quotient_fits, remainder_fits, not_null, not_null_either}
+use Rattle.perm_meaning.proofs.OnWords.Related.{vars_at}
+use Rattle.perm_meaning.proofs.OnWords.Numbers.{number_back, word_below, in_fits, wrapped_fits, equal_words, quotient_fits, remainder_fits, not_null, not_null_either}
 
 module _ (b : Bases) where
   -- a value is given as its word, or the same trap; of what is mistyped nothing is said. What is given on names is a value

@@ -11,9 +11,9 @@ use Rattle.perm_meaning.specs.Steps.{Refused, within, alone, leftmost}
 use Rattle.perm_meaning.specs.Meaning.{Result, Well, Gave, Handed, Fails, Full, Stuck, mean}
 use Rattle.perm_meaning.specs.Outcome.{RanFull, RanStuck, outcome, outcome_from, reported, reported_result, opening, opening_heap, opening_need, opening_state}
 use Rattle.perm_meaning.specs.Claims.{EndsAsMeaning, FillsAsMeaning}
-use Rattle.perm_meaning.proofs.Reached.{Follows}
-use Rattle.perm_meaning.proofs.OneTurn.{at_empty}
-use Rattle.perm_meaning.proofs.Serial.{mean_follows}
+use Rattle.perm_meaning.proofs.LeftFirst.Reached.{Follows}
+use Rattle.perm_meaning.proofs.LeftFirst.OneTurn.{at_empty}
+use Rattle.perm_meaning.proofs.LeftFirst.Serial.{mean_follows}
 
 -- what is within the limit passes its test
 passes : (a b : ℕ) → a ≤ b → nat_le a b ≡ true

@@ -17,10 +17,10 @@ use Rattle.perm_meaning.specs.Shows.{Bases, IsWordOf, IsWithin, HeapShown, IsSho
 use Rattle.perm_meaning.specs.Literals.{CodeFits, NumbersFit}
 use Rattle.perm_meaning.proofs.Leads.{some_inj, none_some}
 use Rattle.perm_meaning.proofs.SameName.{name_true}
-use Rattle.perm_meaning.proofs.NewObjects.{base_or, based, grows, itself, made}
-use Rattle.perm_meaning.proofs.Numbers.{number_back, word_below}
-use Rattle.perm_meaning.proofs.EffectsAlike.{first_alike}
-use Rattle.perm_meaning.proofs.Kept.{not_itself, IsBefore, AreBefore, TaskKept}
+use Rattle.perm_meaning.proofs.OnWords.NewObjects.{base_or, based, grows, itself, made}
+use Rattle.perm_meaning.proofs.OnWords.Numbers.{number_back, word_below}
+use Rattle.perm_meaning.proofs.OnWords.EffectsAlike.{first_alike}
+use Rattle.perm_meaning.proofs.OnWords.Kept.{not_itself, IsBefore, AreBefore, TaskKept}
 
 lt_true : (a b : ℕ) → nat_lt a b ≡ true → a < b
 lt_true a b e = grind (arith, nat_tests)

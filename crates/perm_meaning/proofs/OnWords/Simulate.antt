@@ -6,8 +6,8 @@ use Rattle.perm_meaning.specs.Machine.{Machine, Frame, OpenBlock, OpenRecover, O
 use Rattle.perm_meaning.specs.Steps.{Answer, Found, Refused, Missing, Memory, State, leftmost, answered, asked, step, granted, asked_with_care, careful, alone}
 use Rattle.perm_meaning.specs.Relate.{OptionR, VarsR, StackR, CloseR, FinalR, BranchR, TaskR, DidR, TurnR}
 use Rattle.perm_meaning.proofs.Leads.{some_inj, none_some, then_some, then_at}
-use Rattle.perm_meaning.proofs.Related.{StageR, stage_alike, final_alike, leftmost_alike, branch_up, task_up}
-use Rattle.perm_meaning.proofs.Joined.{join_alike}
+use Rattle.perm_meaning.proofs.OnWords.Related.{StageR, stage_alike, final_alike, leftmost_alike, branch_up, task_up}
+use Rattle.perm_meaning.proofs.OnWords.Joined.{join_alike}
 
 -- both heaps answer alike and stay related; of a field that isn't there nothing is said
 module _ {V O H W P J B : Type 0} (R : B → V → W → Type 0) (Grows : B → B → Type 0) (HR : B → H → J → Type 0) (memory : Memory V O H) (memory' : Memory W P J) (fits : ℕ → Bool) where

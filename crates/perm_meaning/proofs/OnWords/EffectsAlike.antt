@@ -21,11 +21,11 @@ use Rattle.perm_meaning.specs.WordHeap.{NoMark, no_marks}
 use Rattle.perm_meaning.specs.Relate.{VarsR, OwnR}
 use Rattle.perm_meaning.specs.Shows.{Bases, Grows, IsWordOf, AnyMark}
 use Rattle.perm_meaning.specs.Literals.{ArgumentFits, ArgumentsFit, InstructionFits}
-use Rattle.perm_meaning.proofs.Related.{vars_append, vars_repeat, vars_length, vars_set, vars_up, own_up}
-use Rattle.perm_meaning.proofs.Heaps.{word_grows}
-use Rattle.perm_meaning.proofs.NewObjects.{Asks}
-use Rattle.perm_meaning.proofs.Numbers.{number_back, word_below, decoded}
-use Rattle.perm_meaning.proofs.ExpressionsAlike.{EvalR, look_up_alike, eval_alike}
+use Rattle.perm_meaning.proofs.OnWords.Related.{vars_append, vars_repeat, vars_length, vars_set, vars_up, own_up}
+use Rattle.perm_meaning.proofs.OnWords.Heaps.{word_grows}
+use Rattle.perm_meaning.proofs.OnWords.NewObjects.{Asks}
+use Rattle.perm_meaning.proofs.OnWords.Numbers.{number_back, word_below, decoded}
+use Rattle.perm_meaning.proofs.OnWords.ExpressionsAlike.{EvalR, look_up_alike, eval_alike}
 
 -- ---------- variables ----------
 module _ (b : Bases) where

@@ -15,9 +15,9 @@ use Rattle.perm_meaning.specs.Steps.{Answer, Found, Refused, Missing}
 use Rattle.perm_meaning.specs.Meaning as meaning
 use Rattle.perm_meaning.specs.Meaning.{Moment, Result, Well, Gave, Handed, Fails, Full, Stuck, fail, left_of, right_of, set_vars, then_do, close, recovered, par_of, perform, doing, does, mean}
 use Rattle.perm_meaning.proofs.Leads.{stay}
-use Rattle.perm_meaning.proofs.Reached.{Frame, going, Follows, then_follows, close_follows, recovered_follows}
-use Rattle.perm_meaning.proofs.OneTurn.{TurnTo, Answered, then_task, spending, dies_follows, on_follows, test_to, depth_to, give_to, return_to}
-use Rattle.perm_meaning.proofs.AtPar.{par_to}
+use Rattle.perm_meaning.proofs.LeftFirst.Reached.{Frame, going, Follows, then_follows, close_follows, recovered_follows}
+use Rattle.perm_meaning.proofs.LeftFirst.OneTurn.{TurnTo, Answered, then_task, spending, dies_follows, on_follows, test_to, depth_to, give_to, return_to}
+use Rattle.perm_meaning.proofs.LeftFirst.AtPar.{par_to}
 
 module _ (u : UnitCode) (fits : ℕ → Bool) (t : ℕ) (again : Code → Moment → Result) (less : (c : Code) (m : Moment) (st : List Frame) → m.turns < t → Follows u fits End st m.turns (going u c st m) (again c m)) where
   -- the end of a call

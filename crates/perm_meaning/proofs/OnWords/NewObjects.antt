@@ -19,8 +19,8 @@ use Rattle.perm_meaning.specs.Steps.{Answer, Found, Refused}
 use Rattle.perm_meaning.specs.Shows.{Bases, Grows, IsWordOf, IsAskOf, IsWithin, HeapShown}
 use Rattle.perm_meaning.proofs.Leads.{some_inj, none_some}
 use Rattle.perm_meaning.proofs.SameName.{name_true, name_itself}
-use Rattle.perm_meaning.proofs.Simulate.{AnsweredR}
-use Rattle.perm_meaning.proofs.Heaps.{word_grows, stored}
+use Rattle.perm_meaning.proofs.OnWords.Simulate.{AnsweredR}
+use Rattle.perm_meaning.proofs.OnWords.Heaps.{word_grows, stored}
 
 -- ---------- first values ----------
 -- what a field starts as is the word 0

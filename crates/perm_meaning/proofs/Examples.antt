@@ -1,0 +1,4 @@
+-- Worked programs.
+pub mod Shown
+mod Outcomes
+mod LeftFirst
