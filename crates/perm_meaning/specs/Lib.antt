@@ -7,11 +7,13 @@ pub mod Steps
 pub mod Effects
 pub mod Custody
 pub mod Turns
+pub mod Steady
 pub mod NamedHeap
 pub mod Meaning
 pub mod Outcome
 pub mod Words
 pub mod Relate
+pub mod HoldsFewer
 pub mod WordHeap
 pub mod Shows
 pub mod Layout
