@@ -1,0 +1,5 @@
+-- What a run with copies does is what the core does: each event of the machine whose variables move is one of the machine that copies them.
+pub mod Parts
+pub mod KeptVariables
+pub mod Stacks
+pub mod Merges
