@@ -3,3 +3,4 @@ pub mod Parts
 pub mod KeptVariables
 pub mod Stacks
 pub mod Merges
+pub mod Ends
