@@ -4,3 +4,5 @@ pub mod KeptVariables
 pub mod Stacks
 pub mod Merges
 pub mod Ends
+pub mod Evaluations
+pub mod Statements
