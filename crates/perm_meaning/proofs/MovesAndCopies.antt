@@ -6,3 +6,5 @@ pub mod Merges
 pub mod Ends
 pub mod Evaluations
 pub mod Statements
+pub mod Turns
+pub mod Events
