@@ -8,3 +8,6 @@ pub mod Evaluations
 pub mod Statements
 pub mod Turns
 pub mod Events
+pub mod LeftFirst
+pub mod Runs
+pub mod RunsBack

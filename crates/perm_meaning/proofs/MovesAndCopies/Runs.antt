@@ -1,0 +1,78 @@
+-- From the opening: each list of events under moves is one under copies, and left first both end as the meaning says.
+use Rattle.std.proofs.Common.{◌≡◌, ℕ, Some, refl, ◌≢◌, List, sym, ap, ◌∙◌, subst, ◌≤◌}
+use Rattle.std.specs.Prelude.{ℤ, slice_get}
+use Rattle.perm_tree.specs.Code.{Routine, UnitCode}
+use Rattle.perm_tree.specs.Vars.{none}
+use Rattle.perm_meaning.specs.NamedHeap.{memory, Final, State, named}
+use Rattle.perm_meaning.specs.Steps.{within, alone, leftmost, runs, step}
+use Rattle.perm_meaning.specs.Outcome.{Outcome, RanStuck, outcome, opening_state, RanFull, opening_own, reported, opening_need}
+use Rattle.perm_meaning.specs.Machine.{Way, final}
+use Rattle.perm_meaning.specs.Custody.{Copies, Moves}
+use Rattle.perm_meaning.specs.Steady.{IsSteady}
+use Rattle.perm_meaning.specs.HoldsFewer.{at_base, in_base, going, leaf, StateHoldsFewer, FinalHoldsFewer}
+use Rattle.perm_meaning.proofs.Leads.{some_inj, none_some, unended}
+use Rattle.perm_meaning.proofs.Determined.{one_end, determined, over_at_rest, refused_at_rest}
+use Rattle.perm_meaning.proofs.WholeRun.{ends_as_meaning, fills_as_meaning}
+use Rattle.perm_meaning.proofs.MovesAndCopies.Parts.{parts-same}
+use Rattle.perm_meaning.proofs.MovesAndCopies.Ends.{final-fewer}
+use Rattle.perm_meaning.proofs.MovesAndCopies.Events.{runs-fewer}
+use Rattle.perm_meaning.proofs.MovesAndCopies.LeftFirst.{told-alike, alone-fewer}
+
+module _ (u : UnitCode) (steady : IsSteady u) where
+  -- ---------- from the opening ----------
+  module _ (limit : ℕ) (input : List ℤ) (turns : ℕ) (r : Routine) (is : slice_get u.routines u.run ≡ Some r) where
+    abbrev opening : State
+    opening = opening_state u input turns r
+
+    pub opening-fewer : StateHoldsFewer none (opening_own u input r).vars opening opening
+    opening-fewer = (leaf (going {l = opening_own u input r} (parts-same (opening_own u input r).vars) (steady u.run r is) (at_base refl) (in_base (λ x h. absurd (cc)) (λ x h. absurd (cc)))), refl)
+
+    -- each list of events under moves is one under copies, to related states
+    pub lists-alike : (es : List Way) (s : State) → runs (step (named Moves u) (memory u) (within limit)) es opening ≡ Some s → (t : State) × (runs (step (named Copies u) (memory u) (within limit)) es opening ≡ Some t) × StateHoldsFewer none (opening_own u input r).vars s t
+    lists-alike es s e = runs-fewer u steady (within limit) es opening opening s opening-fewer e
+
+    -- a list of events under copies is complete and tells this
+    pub record TellsTheSame (es : List Way) (o : Outcome) : Type 0 where
+      pub state : State
+      pub ending : Final
+      pub run : runs (step (named Copies u) (memory u) (within limit)) es opening ≡ Some state
+      pub over : final state.task ≡ Some ending
+      pub told : reported turns ending state.heap ≡ o
+
+    -- so it does where the list is complete under moves
+    pub complete-alike : (es : List Way) (s : State) (f : Final) → runs (step (named Moves u) (memory u) (within limit)) es opening ≡ Some s → final s.task ≡ Some f
+        → TellsTheSame es (reported turns f s.heap)
+    complete-alike es s f e q =
+        let a = lists-alike es s e in
+        let b = final-fewer none (opening_own u input r).vars a.2.0 f q in
+        record {
+          state = a.0;
+          ending = b.0;
+          run = a.1;
+          over = b.1;
+          told = ap (λ h. reported turns b.0 h) a.2.1 ∙ sym (told-alike none (opening_own u input r).vars turns s.heap f b.0 b.2);
+        }
+
+    -- left first, the core ends as the meaning says
+    pub ends-as-outcome : opening_need u input ≤ limit → outcome u input turns limit ≢ RanStuck
+        → (n : ℕ) (s : State) (f : Final) → alone (named Moves u) (memory u) (within limit) n opening ≡ Some s → final s.task ≡ Some f → reported turns f s.heap ≡ outcome u input turns limit
+    ends-as-outcome room unstuck n s f e q = told-alike none (opening_own u input r).vars turns s.heap f b.0 b.2 ∙ ap (λ h. reported turns b.0 h) (sym a.2.1) ∙ same
+      where
+        a : (t : State) × (alone (named Copies u) (memory u) (within limit) n opening ≡ Some t) × StateHoldsFewer none (opening_own u input r).vars s t
+        a = alone-fewer u steady (within limit) n opening opening s opening-fewer e
+
+        b : (g : Final) × (final a.0.task ≡ Some g) × FinalHoldsFewer none (opening_own u input r).vars f g
+        b = final-fewer none (opening_own u input r).vars a.2.0 f q
+
+        full : outcome u input turns limit ≢ RanFull
+        full z =
+            let c = fills_as_meaning u limit input turns r is room z in
+            let d = determined (named Copies u) (memory u) (within limit) n c.0 opening a.0 c.1 a.1 (over_at_rest (named Copies u) (memory u) (within limit) a.0 b.0 b.1) c.3 (refused_at_rest (named Copies u) (memory u) (within limit) c.1 c.2 c.4 c.5) in
+            none_some (sym (unended (named Copies u) (leftmost c.1.task) c.1.task c.2 c.4) ∙ subst (λ (z : State). final z.task ≡ Some b.0) d.1 b.1)
+
+        same : reported turns b.0 a.0.heap ≡ outcome u input turns limit
+        same =
+            let c = ends_as_meaning u limit input turns r is room unstuck full in
+            let d = one_end (named Copies u) (memory u) (within limit) n c.0 opening a.0 c.1 b.0 c.2 a.1 b.1 c.3 c.4 in
+            let g = some_inj (sym b.1 ∙ ap (λ (z : State). final z.task) d.1 ∙ c.4) in
+            ap (λ z. reported turns z a.0.heap) g ∙ ap (λ (z : State). reported turns c.2 z.heap) d.1 ∙ c.5
