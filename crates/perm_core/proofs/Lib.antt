@@ -8,3 +8,4 @@ mod Examples
 pub mod Pieces
 pub mod Whole
 pub mod Commute
+pub mod SteadyCodes

@@ -312,8 +312,8 @@ module _ (u : UnitCode) where
   below-less (suc n) (suc x) less = below-less n x (omega (arith, less))
 
   -- what one block writes doesn't stand in the other
-  shared : (k : Context) (own1 : List ℕ) (a : Code) (own2 : List ℕ) (d : Code) (G B : Vars) → IsAllowed k (par_head k own1 a own2 d) G → Goes k d G B → (x : ℕ) → block_writes own1 a x ≡ true → block_mentions own2 d x ≡ true → ⊥
-  shared k own1 a own2 d G B allowed goes x w m =
+  pub blocks-share-none : (k : Context) (own1 : List ℕ) (a : Code) (own2 : List ℕ) (d : Code) (G B : Vars) → IsAllowed k (par_head k own1 a own2 d) G → Goes k d G B → (x : ℕ) → block_writes own1 a x ≡ true → block_mentions own2 d x ≡ true → ⊥
+  blocks-share-none k own1 a own2 d G B allowed goes x w m =
       let known : x < length k.vars = mentioned-known k d G ((agree k d G).fine B goes) x (and_parts (mentioned d x) (not (those own2 x)) m).0 in
       let apart = or_parts (some_var k (meet (touches k own1 a) (uses k own2 d))) _ (applies-none k (par_head k own1 a own2 d) G allowed ParShared) in
       let none : meet (touches k own1 a) (uses k own2 d) x ≡ false = nothing-below (length k.vars) (meet (touches k own1 a) (uses k own2 d)) x known apart.0 in
@@ -445,7 +445,7 @@ module _ (u : UnitCode) where
 
           on_right : back_r u m p x ≡ true → Where x → right_side.0 x ≡ true
           on_right r (inl (g, (f, h))) = through own2 d B right_side.0 goes_d right_side.1 x (back-stands (block_writes own2 d) (block_mentions own2 d) (block_writes-within own2 d) x r) (and_parts (B x) (not (those own2 x)) h).0
-          on_right r (inr (inl q)) = absurd (shared k own1 a own2 d U B top_on.goes.0 goes_d x (makes own1 a A goes_a x q).0 (back-stands (block_writes own2 d) (block_mentions own2 d) (block_writes-within own2 d) x r))
+          on_right r (inr (inl q)) = absurd (blocks-share-none k own1 a own2 d U B top_on.goes.0 goes_d x (makes own1 a A goes_a x q).0 (back-stands (block_writes own2 d) (block_mentions own2 d) (block_writes-within own2 d) x r))
           on_right r (inr (inr q)) = made-in own2 d right_side.0 _ right_side.1 x (makes own2 d B goes_d x q).1
 
           on_left : back_r u m p x ≡ false → back_l u m p x ≡ true → Where x → left_side.0 x ≡ true

@@ -26,7 +26,7 @@ unblocked : (own : List ℕ) (a : Code) (y : ℕ) → block_mentions own a y ≡
 unblocked own a y m = (and_parts (mentioned a y) (not (those own y)) m).0
 
 -- code that ends with nothing gives to no variable
-none-given : {A : Type 0} → is_by_give ByNothing ≡ true → A
+pub none-given : {A : Type 0} → is_by_give ByNothing ≡ true → A
 none-given e = absurd (let no : ⊥ = cc e in no)
 
 module _ (D : Vars) where
