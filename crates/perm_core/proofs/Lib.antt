@@ -9,3 +9,4 @@ pub mod Pieces
 pub mod Whole
 pub mod Commute
 pub mod SteadyCodes
+pub mod LeftRuns
