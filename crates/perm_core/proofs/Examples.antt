@@ -10,3 +10,5 @@ pub mod Schedules
 mod Shortages
 mod ShownRuns
 mod WordRuns
+-- Worked examples of the picture, and of code that is not steady.
+mod UnsteadyCodes
