@@ -10,3 +10,4 @@ pub mod Whole
 pub mod Commute
 pub mod SteadyCodes
 pub mod LeftRuns
+pub mod LivelyRuns
