@@ -4,6 +4,7 @@ pub mod Progress
 pub mod WordsShown
 pub mod KeepsPicture
 pub mod Sound
+pub mod Serial
 mod Examples
 pub mod Pieces
 pub mod Whole

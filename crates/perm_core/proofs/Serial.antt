@@ -1,0 +1,3 @@
+-- Every complete list of events ends as running left then right does.
+pub mod Confluence
+pub mod Needs
