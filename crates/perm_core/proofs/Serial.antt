@@ -1,3 +1,4 @@
 -- Every complete list of events ends as running left then right does.
 pub mod Confluence
 pub mod Needs
+pub mod FreeSteps
