@@ -75,7 +75,7 @@ module _ {V G : Type 0} where
       by_code (Recover at x own hides a rest) st e = by_turns t e
 
   -- twice the turns that are left in a tree, and one for each par that waits
-  abbrev weight : Task V G → ℕ
+  abbrev pub weight : Task V G → ℕ
   weight (Leaf b) = 2 * b.turns
   weight (Fork b p l r) = suc (weight l + weight r)
 
@@ -143,7 +143,7 @@ module _ {V G O : Type 0} (m : Machine V G O) where
   fill-less (GoR w) (Fork b p l r) o v e = let less : suc (weight (fill m w r v)) ≤ weight r = fill-less w r o v e in omega arith
 
   module _ {H : Type 0} (memory : Memory V O H) (fits : ℕ → Bool) where
-    step-less : (s t : State V G H) (w : Way) → step m memory fits s w ≡ Some t → suc (weight t.task) ≤ weight s.task
+    pub step-less : (s t : State V G H) (w : Way) → step m memory fits s w ≡ Some t → suc (weight t.task) ≤ weight s.task
     step-less s t w e = looked (look m w s.task) refl e
       where
         reply : (o : O) (x : Answer V) → look m w s.task ≡ Some o → answered m memory fits s w o x ≡ Some t → suc (weight t.task) ≤ weight s.task

@@ -2,3 +2,4 @@
 pub mod Confluence
 pub mod Needs
 pub mod FreeSteps
+pub mod FreeRuns

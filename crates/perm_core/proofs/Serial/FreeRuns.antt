@@ -1,0 +1,184 @@
+-- Lists of events without a limit on the heap: they keep that there is a picture, any two complete ones end in one state, and none needs more words than a complete one.
+use Rattle.std.proofs.Common.{◌≡◌, ◌≢◌, ℕ, ◌+◌, ◌≤◌, ◌⊎◌, inl, inr, Option, Some, None, List, refl, sym, ap, ◌∙◌, arith}
+use Rattle.perm_tree.specs.Code.{UnitCode}
+use Rattle.perm_meaning.specs.Machine.{Leaf, Fork, Way, Here, GoL, GoR, Final, stage, over, final, if_both_over}
+use Rattle.perm_meaning.specs.Effects.{Tick}
+use Rattle.perm_meaning.specs.NamedHeap as named
+use Rattle.perm_meaning.specs.NamedHeap.{Held, Op, Task, State, memory}
+use Rattle.perm_meaning.specs.Steps.{runs, within, asked}
+use Rattle.perm_meaning.proofs.Leads.{none_some, ended_no_event}
+use Rattle.perm_core.specs.Core.{core, look, step}
+use Rattle.perm_core.specs.Regions.{Labels}
+use Rattle.perm_core.specs.Picture.{IsPicture}
+use Rattle.perm_core.specs.NextPicture.{next_picture}
+use Rattle.perm_core.specs.Claims.{IsChecked, leaf_at}
+use Rattle.perm_core.specs.Unproved.{KeepsPicture}
+use Rattle.perm_core.proofs.Conflicts.{either_order}
+use Rattle.perm_core.proofs.FewEvents.{weight, step-less}
+use Rattle.perm_core.proofs.NextEvents.{has_next}
+use Rattle.perm_core.proofs.Serial.Confluence.{IsFinal, Commutes, confluent}
+use Rattle.perm_core.proofs.Serial.Needs.{GoesOrEnds, Terminates, Completed, runs-keep, complete, never-more}
+use Rattle.perm_core.proofs.Serial.FreeSteps.{no_limit, free_step, asks, roomy-unrefused, unrefused-free, free-grows}
+
+-- ---------- nodes ----------
+pub way-or-other : (v w : Way) → Dec (v ≡ w)
+way-or-other Here Here = yes refl
+way-or-other Here (GoL w) = no (λ e. absurd (cc))
+way-or-other Here (GoR w) = no (λ e. absurd (cc))
+way-or-other (GoL v) Here = no (λ e. absurd (cc))
+way-or-other (GoL v) (GoR w) = no (λ e. absurd (cc))
+way-or-other (GoR v) Here = no (λ e. absurd (cc))
+way-or-other (GoR v) (GoL w) = no (λ e. absurd (cc))
+way-or-other (GoL v) (GoL w) = elim (way-or-other v w) [ yes e ↦ yes (ap (λ z. GoL z) e) | no d ↦ no (λ e. d (below e)) ]
+  where
+    below : GoL v ≡ GoL w → v ≡ w
+    below e = cc
+way-or-other (GoR v) (GoR w) = elim (way-or-other v w) [ yes e ↦ yes (ap (λ z. GoR z) e) | no d ↦ no (λ e. d (below e)) ]
+  where
+    below : GoR v ≡ GoR w → v ≡ w
+    below e = cc
+
+-- some leaf isn't over
+pub record LeafRuns (t : Task) : Type 0 where
+  pub way : Way
+  pub branch : named.Branch
+  pub there : leaf_at way t ≡ Some branch
+  pub running : over (stage branch) ≡ None
+
+module _ (u : UnitCode) where
+  -- some parent's sides are both over
+  pub record SidesOver (t : Task) : Type 0 where
+    pub way : Way
+    pub event : look u way t ≡ Some Tick
+
+  -- a tree that hasn't ended has a leaf that isn't over, or a parent whose sides are
+  pub unended-next : (t : Task) → final t ≡ None → LeafRuns t ⊎ SidesOver t
+  unended-next (Leaf b) e = inl (record { way = Here; branch = b; there = refl; running = e })
+  unended-next (Fork b p l r) e = go (λ q. unended-next l q) (λ q. unended-next r q) (final l) (final r) refl refl
+    where
+      right : LeafRuns r ⊎ SidesOver r → LeafRuns (Fork b p l r) ⊎ SidesOver (Fork b p l r)
+      right (inl x) = inl (record { way = GoR x.way; branch = x.branch; there = x.there; running = x.running })
+      right (inr x) = inr (record { way = GoR x.way; event = x.event })
+
+      left : LeafRuns l ⊎ SidesOver l → LeafRuns (Fork b p l r) ⊎ SidesOver (Fork b p l r)
+      left (inl x) = inl (record { way = GoL x.way; branch = x.branch; there = x.there; running = x.running })
+      left (inr x) = inr (record { way = GoL x.way; event = x.event })
+
+      go : (final l ≡ None → LeafRuns l ⊎ SidesOver l) → (final r ≡ None → LeafRuns r ⊎ SidesOver r) → (x y : Option (Final Held)) → final l ≡ x → final r ≡ y → LeafRuns (Fork b p l r) ⊎ SidesOver (Fork b p l r)
+      go of_left of_right None y p q = left (of_left p)
+      go of_left of_right (Some x) None p q = right (of_right q)
+      go of_left of_right (Some x) (Some y) p q = inr (record { way = Here; event = ap (λ z. if_both_over z (final r) None (λ x y. Some Tick)) p ∙ ap (λ z. if_both_over (Some x) z None (λ x y. Some Tick)) q })
+
+-- ---------- pictures ----------
+-- each event keeps the picture, whatever the heap holds
+abbrev pub KeepsPictures : UnitCode → Type 0
+KeepsPictures u = (limit : ℕ) → KeepsPicture u limit
+
+-- the state has a picture
+abbrev pub HasPicture : UnitCode → State → Type 0
+HasPicture u s = (labels : Labels) × IsPicture u labels s
+
+module _ (u : UnitCode) (checked : IsChecked u) where
+  -- the node of an event
+  abbrev node : {t : Task} → LeafRuns t ⊎ SidesOver u t → Way
+  node (inl x) = x.way
+  node (inr x) = x.way
+
+  node-next : (limit : ℕ) (s : State) → HasPicture u s → (x : LeafRuns s.task ⊎ SidesOver u s.task) → (t : State) × (step u limit s (node x) ≡ Some t)
+  node-next limit s picture (inl x) = has_next u limit picture.0 s checked picture.1 x.way x.branch x.there x.running
+  node-next limit s picture (inr x) = (_, ap (λ o. asked (core u) (memory u) (within limit) s x.way o) x.event)
+
+  -- a state with a picture has an event, or it has ended
+  pub next-or-over : (limit : ℕ) (s : State) → HasPicture u s → ((w : Way) × (t : State) × (step u limit s w ≡ Some t)) ⊎ ((f : Final Held) × (final s.task ≡ Some f))
+  next-or-over limit s picture = go (final s.task) refl
+    where
+      event : LeafRuns s.task ⊎ SidesOver u s.task → (w : Way) × (t : State) × (step u limit s w ≡ Some t)
+      event x = let y = node-next limit s picture x in (node x, y.0, y.1)
+
+      go : (x : Option (Final Held)) → final s.task ≡ x → ((w : Way) × (t : State) × (step u limit s w ≡ Some t)) ⊎ ((f : Final Held) × (final s.task ≡ Some f))
+      go None q = inl (event (unended-next u s.task q))
+      go (Some f) q = inr (f, q)
+
+  -- a state that has ended has no event, with or without a limit
+  pub over-final : (limit : ℕ) (s : State) (f : Final Held) → final s.task ≡ Some f → IsFinal (step u limit) s
+  over-final limit s f e w = ap (λ o. asked (core u) (memory u) (within limit) s w o) (ended_no_event (core u) w s.task f e)
+
+  pub over-free : (s : State) (f : Final Held) → final s.task ≡ Some f → IsFinal (free_step u) s
+  over-free s f e w = ap (λ o. asked (core u) (memory u) no_limit s w o) (ended_no_event (core u) w s.task f e)
+
+  module _ (keeps : KeepsPictures u) where
+    -- an event within a limit, or without one, leads from a state with a picture to one with a picture
+    pub pictured-next : (limit : ℕ) (s t : State) (w : Way) → HasPicture u s → step u limit s w ≡ Some t → HasPicture u t
+    pictured-next limit s t w picture e = (next_picture u limit picture.0 s w, keeps limit picture.0 s t w checked picture.1 e)
+
+    -- an event without a limit is one within the words that it leaves
+    free-within : (limit : ℕ) (s t : State) (w : Way) → s.heap.given + asks u s w ≤ limit → free_step u s w ≡ Some t → step u limit s w ≡ Some t
+    free-within limit s t w le e = unrefused-free u limit s w (roomy-unrefused u limit s w le) ∙ e
+
+    within-free : (limit : ℕ) (s t : State) (w : Way) → s.heap.given + asks u s w ≤ limit → step u limit s w ≡ Some t → free_step u s w ≡ Some t
+    within-free limit s t w le e = sym (unrefused-free u limit s w (roomy-unrefused u limit s w le)) ∙ e
+
+    free-pictured : (s t : State) (w : Way) → HasPicture u s → free_step u s w ≡ Some t → HasPicture u t
+    free-pictured s t w picture e =
+        let limit = s.heap.given + asks u s w in
+        pictured-next limit s t w picture (free-within limit s t w (omega arith) e)
+
+    -- two events of different nodes may come in either order
+    free-either-order : (s a b : State) (p q : Way) → HasPicture u s → p ≢ q → free_step u s p ≡ Some a → free_step u s q ≡ Some b → (t : State) × (free_step u a q ≡ Some t) × (free_step u b p ≡ Some t)
+    free-either-order s a b p q picture differ to_a to_b =
+        let limit = (s.heap.given + asks u s p) + ((s.heap.given + asks u s q) + ((a.heap.given + asks u a q) + (b.heap.given + asks u b p))) in
+        let a_q : a.heap.given + asks u a q ≤ limit = omega arith in
+        let b_p : b.heap.given + asks u b p ≤ limit = omega arith in
+        let x = either_order u limit picture.0 s a b p q picture.1 differ (free-within limit s a p (omega arith) to_a) (free-within limit s b q (omega arith) to_b) (roomy-unrefused u limit a q a_q) (roomy-unrefused u limit b p b_p) in
+        (x.0, within-free limit a x.0 q a_q x.1, within-free limit b x.0 p b_p x.2)
+
+    free-next : (s : State) → HasPicture u s → GoesOrEnds (free_step u) s
+    free-next s picture = go (final s.task) refl
+      where
+        event : LeafRuns s.task ⊎ SidesOver u s.task → GoesOrEnds (free_step u) s
+        event x =
+            let limit = s.heap.given + asks u s (node x) in
+            let y = node-next limit s picture x in
+            inl (node x, y.0, within-free limit s y.0 (node x) (omega arith) y.1)
+
+        go : (x : Option (Final Held)) → final s.task ≡ x → GoesOrEnds (free_step u) s
+        go None q = event (unended-next u s.task q)
+        go (Some f) q = inr (over-free s f q)
+
+    -- ---------- lists ----------
+    free-commutes : Commutes (free_step u) (HasPicture u)
+    free-commutes = record { keeps = free-pictured; meets = free-either-order }
+
+    -- what an event leaves of the turns and of the pars that wait
+    abbrev pub fuel : State → ℕ
+    fuel s = weight s.task
+
+    free-terminates : Terminates (free_step u) (HasPicture u) fuel
+    free-terminates = record { keeps = free-pictured; falls = λ s t w e. step-less (core u) (memory u) no_limit s t w e; goes = free-next }
+
+    -- within a limit each list can be completed
+    pub completed : (limit : ℕ) (s : State) → HasPicture u s → (ws : List Way) × (t : State) × (f : Final Held) × (runs (step u limit) ws s ≡ Some t) × (final t.task ≡ Some f)
+    completed limit s picture = over_at (complete (step u limit) (HasPicture u) fuel terminates s picture)
+      where
+        end_or_on : (t : State) → HasPicture u t → GoesOrEnds (step u limit) t
+        end_or_on t is = elim (next-or-over limit t is) [ inl x ↦ inl x | inr x ↦ inr (over-final limit t x.0 x.1) ]
+
+        terminates : Terminates (step u limit) (HasPicture u) fuel
+        terminates = record { keeps = pictured-next limit; falls = λ s t w e. step-less (core u) (memory u) (within limit) s t w e; goes = end_or_on }
+
+        over_at : (c : Completed (step u limit) s) → (ws : List Way) × (t : State) × (f : Final Held) × (runs (step u limit) ws s ≡ Some t) × (final t.task ≡ Some f)
+        over_at c = go (next-or-over limit c.end (runs-keep (step u limit) (HasPicture u) (pictured-next limit) c.events s c.end picture c.run))
+          where
+            go : ((w : Way) × (t : State) × (step u limit c.end w ≡ Some t)) ⊎ ((f : Final Held) × (final c.end.task ≡ Some f)) → (ws : List Way) × (t : State) × (f : Final Held) × (runs (step u limit) ws s ≡ Some t) × (final t.task ≡ Some f)
+            go (inl x) = none_some (sym (c.final x.0) ∙ x.2)
+            go (inr x) = (c.events, c.end, x.0, c.run, x.1)
+
+    -- two complete lists without a limit end in one state
+    pub free-confluent : (s a b : State) (f g : Final Held) (vs ws : List Way) → HasPicture u s → runs (free_step u) vs s ≡ Some a → final a.task ≡ Some f → runs (free_step u) ws s ≡ Some b → final b.task ≡ Some g → a ≡ b
+    free-confluent s a b f g vs ws picture to_a f_is to_b g_is =
+        (confluent (free_step u) (HasPicture u) way-or-other free-commutes vs ws s a b picture to_a (over-free a f f_is) to_b (over-free b g g_is)).0
+
+    -- no list needs more words than a complete one
+    pub free-never-more : (s a b : State) (f : Final Held) (vs ws : List Way) → HasPicture u s → runs (free_step u) vs s ≡ Some a → final a.task ≡ Some f → runs (free_step u) ws s ≡ Some b → b.heap.given ≤ a.heap.given
+    free-never-more s a b f vs ws picture to_a f_is to_b =
+        never-more (free_step u) (HasPicture u) fuel free-terminates (λ z. z.heap.given) (free-grows u) way-or-other free-commutes vs ws s a b picture to_a (over-free a f f_is) to_b
