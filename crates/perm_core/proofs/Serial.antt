@@ -3,3 +3,4 @@ pub mod Confluence
 pub mod Needs
 pub mod FreeSteps
 pub mod FreeRuns
+pub mod Refusals
