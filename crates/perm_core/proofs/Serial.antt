@@ -4,3 +4,4 @@ pub mod Needs
 pub mod FreeSteps
 pub mod FreeRuns
 pub mod Refusals
+pub mod RoomKept
