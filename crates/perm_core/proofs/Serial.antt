@@ -5,3 +5,4 @@ pub mod FreeSteps
 pub mod FreeRuns
 pub mod Refusals
 pub mod RoomKept
+pub mod CompleteLists
