@@ -6,3 +6,4 @@ pub mod FreeRuns
 pub mod Refusals
 pub mod RoomKept
 pub mod CompleteLists
+pub mod LeftThenRight

@@ -1,0 +1,102 @@
+-- Every complete list of events ends as running left then right does, where each event keeps the picture and some complete list ends so.
+use Rattle.std.proofs.Common.{◌≡◌, ◌≢◌, ℕ, Option, Some, None, List, [], refl, sym, ap, ◌∙◌}
+use Rattle.std.specs.Prelude.{ℤ}
+use Rattle.perm_tree.specs.Code.{Routine, UnitCode}
+use Rattle.perm_meaning.specs.Values.{Number}
+use Rattle.perm_meaning.specs.Machine.{Way, NoRoom, NoTurns, Trapped, Fine, GaveBack, Failed, final}
+use Rattle.perm_meaning.specs.NamedHeap.{Heap, Held, Final, State}
+use Rattle.perm_meaning.specs.Outcome.{RanFull, outcome, reported, opening_state}
+use Rattle.perm_meaning.specs.Steps.{runs}
+use Rattle.perm_meaning.proofs.Leads.{some_inj, none_some}
+use Rattle.perm_core.specs.Core.{step, told_of, core_outcome, Conflict}
+use Rattle.perm_core.specs.NextPicture.{first_picture}
+use Rattle.perm_core.specs.Claims.{IsChecked, Opens, AllHaveNext}
+use Rattle.perm_core.specs.Unproved.{SomeRefused, EndsLeftThenRight, RefusedWhereFull}
+use Rattle.perm_core.proofs.Conflicts.{has_no_conflict}
+use Rattle.perm_core.proofs.NextEvents.{has_next}
+use Rattle.perm_core.proofs.OpeningPicture.{opens_with_picture}
+use Rattle.perm_core.proofs.Serial.Needs.{runs-keep}
+use Rattle.perm_core.proofs.Serial.FreeRuns.{KeepsPictures, HasPicture, pictured-next}
+use Rattle.perm_core.proofs.Serial.Refusals.{EndsFull, lacking-ends, refused-lacks, some-refused-or-not, unrefused-runs-free}
+use Rattle.perm_core.proofs.Serial.RoomKept.{roomy-ends, free-runs-room}
+use Rattle.perm_core.proofs.Serial.CompleteLists.{Complete, told-full, ends-alike}
+
+-- ---------- what is told of an ended root ----------
+given-not-full : (turns : ℕ) (v : Held) (t : ℕ) (p : List ℤ) (h : Heap) → reported turns (GaveBack v t p) h ≢ RanFull
+given-not-full turns None t p h e = absurd (cc)
+given-not-full turns (Some (Number n)) t p h e = absurd (cc)
+given-not-full turns (Some _) t p h e = absurd (cc)
+
+-- only want of room is told as a full heap
+reported-so : (turns : ℕ) (f : Final) (h : Heap) → reported turns f h ≡ RanFull → EndsFull f
+reported-so turns (Fine vs t p) h e = absurd (cc)
+reported-so turns (GaveBack v t p) h e = absurd (given-not-full turns v t p h e)
+reported-so turns (Failed (Trapped k at) t p) h e = absurd (cc)
+reported-so turns (Failed NoTurns t p) h e = absurd (cc)
+reported-so turns (Failed NoRoom t p) h e = refl
+
+module _ (u : UnitCode) (limit : ℕ) (input : List ℤ) (turns : ℕ) where
+  -- ---------- pictures that are reached ----------
+  -- every lawful list from the opening leads to a state with a picture
+  abbrev pub ReachesPicture : Type 0
+  ReachesPicture = (r : Routine) (ws : List Way) (t : State) → IsChecked u → Opens u limit input r → runs (step u limit) ws (opening_state u input turns r) ≡ Some t → HasPicture u t
+
+  pub reaches-picture : KeepsPictures u → ReachesPicture
+  reaches-picture keeps r ws t checked opens e =
+      runs-keep (step u limit) (HasPicture u) (pictured-next u checked keeps limit) ws (opening_state u input turns r) t (first_picture, opens_with_picture u limit input turns r checked opens) e
+
+  -- so it leads to no conflict
+  pub reaches-no-conflict : KeepsPictures u → (r : Routine) (ws : List Way) (t : State) → IsChecked u → Opens u limit input r → runs (step u limit) ws (opening_state u input turns r) ≡ Some t → Conflict u t → ⊥
+  reaches-no-conflict keeps r ws t checked opens e = let x = reaches-picture keeps r ws t checked opens e in has_no_conflict u limit x.0 t x.1
+
+  -- and no branch is stuck
+  pub reaches-next : KeepsPictures u → (r : Routine) (ws : List Way) (t : State) → IsChecked u → Opens u limit input r → runs (step u limit) ws (opening_state u input turns r) ≡ Some t → AllHaveNext u limit t
+  reaches-next keeps r ws t checked opens e = let x = reaches-picture keeps r ws t checked opens e in has_next u limit x.0 t checked x.1
+
+  -- ---------- the claims ----------
+  -- a complete list of events that ends as running left then right does
+  pub record EndsSo (r : Routine) : Type 0 where
+    pub events : List Way
+    pub end : State
+    pub run : runs (step u limit) events (opening_state u input turns r) ≡ Some end
+    pub told : core_outcome turns end ≡ Some (outcome u input turns limit)
+
+  -- some complete list does
+  abbrev pub SomeEndsSo : Type 0
+  SomeEndsSo = (r : Routine) → IsChecked u → Opens u limit input r → EndsSo r
+
+  ended : (s : State) (r : _) → core_outcome turns s ≡ Some r → (f : Final) × (final s.task ≡ Some f)
+  ended s r = go (final s.task)
+    where
+      go : (x : Option Final) → told_of turns s x ≡ Some r → (f : Final) × (x ≡ Some f)
+      go None e = none_some e
+      go (Some f) e = (f, refl)
+
+  module _ (keeps : KeepsPictures u) (some : SomeEndsSo) where
+    pub ends-left-then-right : EndsLeftThenRight u limit input turns
+    ends-left-then-right r ws t checked opens run f over =
+        let x = some r checked opens in
+        let g = ended x.end (outcome u input turns limit) x.told in
+        let picture = reaches-picture keeps r [] (opening_state u input turns r) checked opens refl in
+        let complete : Complete u limit (opening_state u input turns r) ws t = record { run = run; ending = f; over = over } in
+        let other : Complete u limit (opening_state u input turns r) x.events x.end = record { run = x.run; ending = g.0; over = g.1 } in
+        ends-alike u checked keeps limit (opening_state u input turns r) picture opens.fits turns ws x.events t x.end complete other ∙ x.told
+
+    pub refused-where-full : RefusedWhereFull u limit input turns
+    refused-where-full r ws checked opens (f, (t, run, over)) = (to_full, to_refused)
+      where
+        told : core_outcome turns t ≡ Some (outcome u input turns limit)
+        told = ends-left-then-right r ws t checked opens run f over
+
+        to_full : SomeRefused u limit ws (opening_state u input turns r) → outcome u input turns limit ≡ RanFull
+        to_full refused = some_inj (sym told ∙ told-full turns t f over (lacking-ends t.task f (refused-lacks u limit ws (opening_state u input turns r) t refused run) over))
+
+        to_refused : outcome u input turns limit ≡ RanFull → SomeRefused u limit ws (opening_state u input turns r)
+        to_refused full = elim (some-refused-or-not u limit ws (opening_state u input turns r)) [ yes r ↦ r | no not ↦ absurd (never not) ]
+          where
+            ends_full : EndsFull f
+            ends_full = reported-so turns f t.heap (some_inj (sym (ap (λ z. told_of turns t z) over) ∙ told ∙ ap (λ z. Some z) full))
+
+            never : (SomeRefused u limit ws (opening_state u input turns r) → ⊥) → ⊥
+            never not =
+                roomy-ends u t.task f (free-runs-room u ws (opening_state u input turns r) t (λ e. none_some e) (unrefused-runs-free u limit ws (opening_state u input turns r) t not run)) over ends_full
