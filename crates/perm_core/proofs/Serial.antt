@@ -7,3 +7,4 @@ pub mod Refusals
 pub mod RoomKept
 pub mod CompleteLists
 pub mod LeftThenRight
+pub mod LeftFirst

@@ -110,7 +110,7 @@ module _ (u : UnitCode) where
   join-ticks None y o e = none_some e
 
   -- a refusal closes a branch
-  refusal-lacks : (w : Way) (t : Task) (o : Op) → look u w t ≡ Some o → o ≢ Tick → LacksRoom (fill (core u) w t None)
+  pub refusal-lacks : (w : Way) (t : Task) (o : Op) → look u w t ≡ Some o → o ≢ Tick → LacksRoom (fill (core u) w t None)
   refusal-lacks Here (Leaf b) o e isnt = leaf-lacks b (stage b) o e
   refusal-lacks Here (Fork b p l r) o e isnt = absurd (isnt (join-ticks (final l) (final r) o e))
   refusal-lacks (GoL w) (Leaf b) o e isnt = none_some e
@@ -123,7 +123,7 @@ module _ (u : UnitCode) where
     step-lacks : (s t : State) (w : Way) → LacksRoom s.task → step u limit s w ≡ Some t → LacksRoom t.task
     step-lacks s t w h e = let x = happened u (within limit) s t w e in subst (λ (z : State). LacksRoom z.task) x.end (fill-lacks w s.task x.told x.op x.looked h)
 
-    runs-lack : (ws : List Way) (s t : State) → LacksRoom s.task → runs (step u limit) ws s ≡ Some t → LacksRoom t.task
+    pub runs-lack : (ws : List Way) (s t : State) → LacksRoom s.task → runs (step u limit) ws s ≡ Some t → LacksRoom t.task
     runs-lack [] s t h e = subst (λ (z : State). LacksRoom z.task) (some_inj e) h
     runs-lack (w ∷ ws) s t h e = let a = then_some (step u limit s w) (runs (step u limit) ws) t e in runs-lack ws a.0 t (step-lacks s a.0 w h a.1) a.2
 

@@ -1,0 +1,102 @@
+-- A run of the core with the leftmost node first, which ends as running left then right does or comes to the refused allocation that fills the heap, is such a complete list of events.
+use Rattle.std.proofs.Common.{◌≡◌, ◌≢◌, ℕ, zero, suc, ◌⊎◌, inl, inr, Option, Some, None, List, [], ◌∷◌, ◌++◌, sym, ap, ◌∙◌}
+use Rattle.std.specs.Prelude.{ℤ}
+use Rattle.perm_tree.specs.Code.{Routine, UnitCode}
+use Rattle.perm_meaning.specs.Machine.{Way, final}
+use Rattle.perm_meaning.specs.Effects.{Tick}
+use Rattle.perm_meaning.specs.NamedHeap.{Held, Op, Final, State, memory, find}
+use Rattle.perm_meaning.specs.Outcome.{RanFull, outcome, reported, opening_state}
+use Rattle.perm_meaning.specs.Steps.{Answer, Found, Refused, Missing, runs, within, leftmost, next_state, answered, asked, granted, asked_with_care, careful, alone}
+use Rattle.perm_meaning.proofs.Leads.{none_some, then_some, then_at}
+use Rattle.perm_core.specs.Core.{core, look, step, told_of}
+use Rattle.perm_core.specs.Claims.{IsChecked, Opens}
+use Rattle.perm_core.proofs.Serial.Needs.{runs-append}
+use Rattle.perm_core.proofs.Serial.FreeRuns.{KeepsPictures, HasPicture, pictured-next, completed}
+use Rattle.perm_core.proofs.Serial.Refusals.{LacksRoom, lacking-ends, refusal-lacks, runs-lack}
+use Rattle.perm_core.proofs.Serial.CompleteLists.{told-full}
+use Rattle.perm_core.proofs.Serial.LeftThenRight.{reaches-picture, EndsSo}
+
+module _ (u : UnitCode) (limit : ℕ) where
+  -- an event that isn't a refused allocation is one
+  careful-step : (s t : State) (w : Way) → careful (core u) (memory u) (within limit) s w ≡ Some t → step u limit s w ≡ Some t
+  careful-step s t w = go (look u w s.task)
+    where
+      reply : (o : Op) (x : Answer Held) → granted (core u) (memory u) (within limit) s w o x ≡ Some t → answered (core u) (memory u) (within limit) s w o x ≡ Some t
+      reply o (Found v) e = e
+      reply o Refused e = none_some e
+      reply o Missing e = none_some e
+
+      go : (o : Option Op) → asked_with_care (core u) (memory u) (within limit) s w o ≡ Some t → asked (core u) (memory u) (within limit) s w o ≡ Some t
+      go None e = none_some e
+      go (Some o) e = reply o (find (within limit) o s.heap) e
+
+  -- so many events at the leftmost node are a list of events
+  alone-listed : (n : ℕ) (s t : State) → alone (core u) (memory u) (within limit) n s ≡ Some t → (ws : List Way) × (runs (step u limit) ws s ≡ Some t)
+  alone-listed zero s t e = ([], e)
+  alone-listed (suc n) s t e =
+      let a = then_some (careful (core u) (memory u) (within limit) s (leftmost s.task)) (alone (core u) (memory u) (within limit) n) t e in
+      let r = alone-listed n a.0 t a.2 in
+      (leftmost s.task ∷ r.0, then_at (step u limit s (leftmost s.task)) (runs (step u limit) r.0) a.0 (careful-step s a.0 (leftmost s.task) a.1) ∙ r.1)
+
+  module _ (input : List ℤ) (turns : ℕ) (r : Routine) where
+    -- the leftmost node first, the core ends as is told of the run
+    pub record EndsLeftFirst : Type 0 where
+      pub events : ℕ
+      pub state : State
+      pub ending : Final
+      pub run : alone (core u) (memory u) (within limit) events (opening_state u input turns r) ≡ Some state
+      pub over : final state.task ≡ Some ending
+      pub told : reported turns ending state.heap ≡ outcome u input turns limit
+
+    -- or it comes to a refused allocation, where the heap doesn't hold the run
+    pub record FillsLeftFirst : Type 0 where
+      pub events : ℕ
+      pub state : State
+      pub op : Op
+      pub run : alone (core u) (memory u) (within limit) events (opening_state u input turns r) ≡ Some state
+      pub looked : look u (leftmost state.task) state.task ≡ Some op
+      pub refused : find (within limit) op state.heap ≡ Refused
+      pub full : outcome u input turns limit ≡ RanFull
+
+    pub ends-left-first : EndsLeftFirst → EndsSo u limit input turns r
+    ends-left-first x =
+        let l = alone-listed x.events (opening_state u input turns r) x.state x.run in
+        record { events = l.0; end = x.state; run = l.1; told = ap (λ z. told_of turns x.state z) x.over ∙ ap (λ z. Some z) x.told }
+
+    pub fills-left-first : KeepsPictures u → IsChecked u → Opens u limit input r → FillsLeftFirst → EndsSo u limit input turns r
+    fills-left-first keeps checked opens x = finish (completed u checked keeps limit after (pictured-next u checked keeps limit x.state after w pictured event))
+      where
+        w : Way
+        w = leftmost x.state.task
+
+        l : (ws : List Way) × (runs (step u limit) ws (opening_state u input turns r) ≡ Some x.state)
+        l = alone-listed x.events (opening_state u input turns r) x.state x.run
+
+        pictured : HasPicture u x.state
+        pictured = reaches-picture u limit input turns keeps r l.0 x.state checked opens l.1
+
+        after : State
+        after = next_state (core u) (memory u) (within limit) x.state w x.op None
+
+        event : step u limit x.state w ≡ Some after
+        event = ap (λ z. asked (core u) (memory u) (within limit) x.state w z) x.looked ∙ ap (λ z. answered (core u) (memory u) (within limit) x.state w x.op z) x.refused
+
+        isnt_tick : x.op ≢ Tick
+        isnt_tick q = let e = sym (ap (λ o. find (within limit) o x.state.heap) q) ∙ x.refused in absurd (cc)
+
+        lacks : LacksRoom after.task
+        lacks = refusal-lacks u w x.state.task x.op x.looked isnt_tick
+
+        finish : (ws : List Way) × (t : State) × (f : Final) × (runs (step u limit) ws after ≡ Some t) × (final t.task ≡ Some f) → EndsSo u limit input turns r
+        finish (ws, t, f, run, over) =
+            record {
+              events = l.0 ++ (w ∷ ws);
+              end = t;
+              run = runs-append (step u limit) (HasPicture u) l.0 (w ∷ ws) (opening_state u input turns r) x.state l.1 ∙ then_at (step u limit x.state w) (runs (step u limit) ws) after event ∙ run;
+              told = told-full turns t f over (lacking-ends t.task f (runs-lack u limit ws after t lacks run) over) ∙ ap (λ z. Some z) (sym x.full);
+            }
+
+    -- a run left first, whichever way it goes, is a complete list of events that ends as running left then right does
+    pub left-first-so : KeepsPictures u → IsChecked u → Opens u limit input r → EndsLeftFirst ⊎ FillsLeftFirst → EndsSo u limit input turns r
+    left-first-so keeps checked opens (inl x) = ends-left-first x
+    left-first-so keeps checked opens (inr x) = fills-left-first keeps checked opens x
