@@ -8,3 +8,4 @@ pub mod RoomKept
 pub mod CompleteLists
 pub mod LeftThenRight
 pub mod LeftFirst
+pub mod NumberReturned

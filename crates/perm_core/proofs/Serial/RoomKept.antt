@@ -140,7 +140,7 @@ module _ (u : UnitCode) where
   join-otherwise merge vs out (Failed f t p) (GaveBack v n q) h k e = h e
   join-otherwise merge vs out (Failed f t p) (Failed g n q) h k e = worse-otherwise f g h k e
 
-  settled-close : (b : Branch) (vs : List Held) (c : Code) (st : List (Frame Held)) → (settled (core u) b vs c st).close ≡ b.close
+  pub settled-close : (b : Branch) (vs : List Held) (c : Code) (st : List (Frame Held)) → (settled (core u) b vs c st).close ≡ b.close
   settled-close b vs End [] = refl
   settled-close b vs End (OpenBlock own rest ∷ st) = settled-close b (clear_all tagged vs own) rest st
   settled-close b vs End (OpenRecover own hides saved rest ∷ st) = refl

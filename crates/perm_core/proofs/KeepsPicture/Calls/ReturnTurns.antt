@@ -34,7 +34,7 @@ use Rattle.perm_core.proofs.KeepsPicture.Labels.Relabellings.{object-carry}
 use Rattle.perm_core.proofs.KeepsPicture.Calls.Returns as returns
 
 -- the value of an argument that nothing comes after
-gives-one : (a : Argument) (vs : List Held) (v : Held) → value_of tagged a vs ≡ Gives v → (ws : List Held) × Gives_one vs a v ws
+pub gives-one : (a : Argument) (vs : List Held) (v : Held) → value_of tagged a vs ≡ Gives v → (ws : List Held) × Gives_one vs a v ws
 gives-one (Expression e) vs v q = (vs, plain_one e v q)
 gives-one (Consumed y) vs v q = (clear tagged vs y, consumes_one y v (looked-up (slice_get vs y) v q) q)
 

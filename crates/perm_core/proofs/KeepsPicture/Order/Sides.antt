@@ -98,7 +98,7 @@ module _ (u : UnitCode) where
   same-number n m e = eq_true n m e
 
   -- an event keeps both of the root
-  root-keeps : (m : ℕ) (o : Op) (v : Option Held) (w : Way) (t after : Task) → stands_in m t ≡ true → EventAt u o v w t after → Keeps m (path_of t) after
+  pub root-keeps : (m : ℕ) (o : Op) (v : Option Held) (w : Way) (t after : Task) → stands_in m t ≡ true → EventAt u o v w t after → Keeps m (path_of t) after
   root-keeps m o v _ _ after e (refused_leaf b t _ q open_ same) = subst (λ (z : Task). Keeps m b.own.mark.path z) (sym same) (record { stands = refl; paths = refl })
   root-keeps m o v _ _ after e (told_leaf b t w d _ q open_ due turn same) =
       let low = same-number (lowest b.own.routine b.stack) m (sym (ap (λ x. not (is_open x) || nat_eq (lowest b.own.routine b.stack) m) open_) ∙ e) in
