@@ -1,4 +1,4 @@
--- Worked examples of the core and of the picture.
+-- Worked examples of the core, of the picture and of code that is not steady.
 mod RefutedPictures
 mod HiddenRuns
 mod ForeignMethods
@@ -10,5 +10,4 @@ pub mod Schedules
 mod Shortages
 mod ShownRuns
 mod WordRuns
--- Worked examples of the picture, and of code that is not steady.
 mod UnsteadyCodes

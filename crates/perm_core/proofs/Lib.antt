@@ -1,12 +1,4 @@
 pub mod FewEvents
-pub mod HeldEvents
-pub mod Holes
-mod Interleavings
-pub mod PictureTest
-pub mod LeadsTo
-pub mod LeafOperations
-mod NamesToCome
-pub mod NextEvents
 pub mod OpeningPicture
 pub mod Progress
 pub mod WordsShown

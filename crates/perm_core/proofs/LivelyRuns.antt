@@ -14,8 +14,8 @@ use Rattle.perm_core.specs.Claims.{IsChecked, Opens, leaf_at, AllHaveNext}
 use Rattle.perm_core.specs.Regions.{Labels}
 use Rattle.perm_core.specs.Picture.{IsPicture}
 use Rattle.perm_core.specs.NextPicture.{first_picture, next_picture}
-use Rattle.perm_core.specs.Unproved.{KeepsPicture}
-use Rattle.perm_core.proofs.NextEvents.{has_next}
+use Rattle.perm_core.specs.Claims.{KeepsPicture}
+use Rattle.perm_core.proofs.Progress.NextEvents.{has_next}
 use Rattle.perm_core.proofs.OpeningPicture.{opens_with_picture}
 
 module _ (u : UnitCode) where

@@ -25,13 +25,13 @@ use Rattle.perm_core.specs.Marked.{same_tie, is_called_on, call_right, calls_rig
 use Rattle.perm_core.specs.Whole.{IsWholeRoutine}
 use Rattle.perm_core.specs.Claims.{IsChecked}
 use Rattle.perm_core.proofs.OpeningPicture.{derived}
-use Rattle.perm_core.proofs.KeepsPicture.CallEnds.{any-left, any-right}
-use Rattle.perm_core.proofs.KeepsPicture.HiddenFree.{AllHidden, out, just-none, hidden-free}
-use Rattle.perm_core.proofs.KeepsPicture.HiddenVariables.{all-none}
-use Rattle.perm_core.proofs.KeepsPicture.LiveTurns.{blocks-share-none}
-use Rattle.perm_core.proofs.KeepsPicture.ParBlocks.{none-given, code-shown}
-use Rattle.perm_core.proofs.KeepsPicture.RightCalls.{lent-isolated}
-use Rattle.perm_core.proofs.KeepsPicture.RightCode.{given-one}
+use Rattle.perm_core.proofs.KeepsPicture.Calls.CallEnds.{any-left, any-right}
+use Rattle.perm_core.proofs.KeepsPicture.Order.HiddenFree.{AllHidden, out, just-none, hidden-free}
+use Rattle.perm_core.proofs.KeepsPicture.Order.HiddenVariables.{all-none}
+use Rattle.perm_core.proofs.KeepsPicture.Order.LiveTurns.{blocks-share-none}
+use Rattle.perm_core.proofs.KeepsPicture.Pars.ParBlocks.{none-given, code-shown}
+use Rattle.perm_core.proofs.KeepsPicture.Calls.RightCalls.{lent-isolated}
+use Rattle.perm_core.proofs.KeepsPicture.Order.RightCode.{given-one}
 
 -- a test that would not pass does not
 false-where : {T : Bool} (t : Bool) → T ≡ true → (t ≡ true → T ≡ false) → t ≡ false

@@ -3,16 +3,5 @@ pub mod Holder
 pub mod SameName
 pub mod LeftFirst
 pub mod OnWords
-pub mod Examples
-pub mod Heaps
-pub mod NewObjects
-pub mod Numbers
-pub mod ExpressionsAlike
-pub mod EffectsAlike
-pub mod TurnsAlike
-pub mod Moved
-pub mod Kept
-pub mod KeptEvents
-pub mod OpeningShown
-pub mod WordsRun
 pub mod MovesAndCopies
+pub mod Examples

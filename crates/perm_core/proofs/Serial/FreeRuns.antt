@@ -12,10 +12,10 @@ use Rattle.perm_core.specs.Regions.{Labels}
 use Rattle.perm_core.specs.Picture.{IsPicture}
 use Rattle.perm_core.specs.NextPicture.{next_picture}
 use Rattle.perm_core.specs.Claims.{IsChecked, leaf_at}
-use Rattle.perm_core.specs.Unproved.{KeepsPicture}
-use Rattle.perm_core.proofs.Conflicts.{either_order}
+use Rattle.perm_core.specs.Claims.{KeepsPicture}
+use Rattle.perm_core.proofs.Commute.Conflicts.{either_order}
 use Rattle.perm_core.proofs.FewEvents.{weight, step-less}
-use Rattle.perm_core.proofs.NextEvents.{has_next}
+use Rattle.perm_core.proofs.Progress.NextEvents.{has_next}
 use Rattle.perm_core.proofs.Serial.Confluence.{IsFinal, Commutes, confluent}
 use Rattle.perm_core.proofs.Serial.Needs.{GoesOrEnds, Terminates, Completed, runs-keep, complete, never-more}
 use Rattle.perm_core.proofs.Serial.FreeSteps.{no_limit, free_step, asks, roomy-unrefused, unrefused-free, free-grows}

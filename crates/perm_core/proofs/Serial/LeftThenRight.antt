@@ -12,8 +12,8 @@ use Rattle.perm_core.specs.Core.{step, told_of, core_outcome, Conflict}
 use Rattle.perm_core.specs.NextPicture.{first_picture}
 use Rattle.perm_core.specs.Claims.{IsChecked, Opens, AllHaveNext}
 use Rattle.perm_core.specs.Unproved.{SomeRefused, EndsLeftThenRight, RefusedWhereFull}
-use Rattle.perm_core.proofs.Conflicts.{has_no_conflict}
-use Rattle.perm_core.proofs.NextEvents.{has_next}
+use Rattle.perm_core.proofs.Commute.Conflicts.{has_no_conflict}
+use Rattle.perm_core.proofs.Progress.NextEvents.{has_next}
 use Rattle.perm_core.proofs.OpeningPicture.{opens_with_picture}
 use Rattle.perm_core.proofs.Serial.Needs.{runs-keep}
 use Rattle.perm_core.proofs.Serial.FreeRuns.{KeepsPictures, HasPicture, pictured-next}

@@ -23,12 +23,12 @@ use Rattle.perm_core.specs.Endings.{ByReturn, is_open}
 use Rattle.perm_core.specs.Regions.{Zone, Base, OwnOf, Labels, calls, top_zone}
 use Rattle.perm_core.specs.Picture.{context_if, context_of, value_fits, valued, context_above, RestGoes, lowest, stands_in}
 use Rattle.perm_core.specs.Claims.{IsChecked}
-use Rattle.perm_core.proofs.KeepsPicture.Arguments.{Comes, argument-comes}
-use Rattle.perm_core.proofs.KeepsPicture.CarriedValues.{AllFit, to-all}
-use Rattle.perm_core.proofs.KeepsPicture.LeafTurns.{TurnTo, dying, ending, acting, making, beginning, left_block, right_block, into_loop, out_of_loop, parting, recovering, giving, returning}
-use Rattle.perm_core.proofs.KeepsPicture.NodePremises.{NodeFits, LeafFits, leaf-fits}
-use Rattle.perm_core.proofs.KeepsPicture.ReturnTurns.{gives-one}
-use Rattle.perm_core.proofs.KeepsPicture.TreeEvents.{EventAt, refused_leaf, told_leaf, joining, on_left, on_right}
+use Rattle.perm_core.proofs.KeepsPicture.Turns.Arguments.{Comes, argument-comes}
+use Rattle.perm_core.proofs.KeepsPicture.Labels.CarriedValues.{AllFit, to-all}
+use Rattle.perm_core.proofs.KeepsPicture.Turns.LeafTurns.{TurnTo, dying, ending, acting, making, beginning, left_block, right_block, into_loop, out_of_loop, parting, recovering, giving, returning}
+use Rattle.perm_core.proofs.KeepsPicture.Trees.NodePremises.{NodeFits, LeafFits, leaf-fits}
+use Rattle.perm_core.proofs.KeepsPicture.Calls.ReturnTurns.{gives-one}
+use Rattle.perm_core.proofs.KeepsPicture.Trees.TreeEvents.{EventAt, refused_leaf, told_leaf, joining, on_left, on_right}
 use Rattle.perm_core.proofs.Serial.RoomKept.{settled-close}
 
 -- the value with which a turn ends a run, if it does

@@ -11,7 +11,7 @@ use Rattle.perm_meaning.specs.Expressions.{tagged, clear, clear_all, cleared_slo
 use Rattle.perm_meaning.specs.Steady.{AreApart, stays_l, stays_r, IsSteadyPar, IsSteadyCode}
 use Rattle.perm_meaning.specs.HoldsFewer.{Frame, IsPart, AreParts, hidden, FitsStacks, at_base, at_block, left_of, LeavesAlone, in_base, in_block, BranchHoldsFewer, going, gone, TaskHoldsFewer, leaf, fork, FinalHoldsFewer, JoinHoldsFewer, at_recover, at_call}
 use Rattle.perm_meaning.proofs.Leads.{some_inj, none_some}
-use Rattle.perm_meaning.proofs.Related.{vars_length, vars_set}
+use Rattle.perm_meaning.proofs.OnWords.Related.{vars_length, vars_set}
 use Rattle.perm_meaning.proofs.MovesAndCopies.Parts.{parts-at, parts-then}
 use Rattle.perm_meaning.proofs.MovesAndCopies.KeptVariables.{kept-same, kept-cleared, cleared-is, on-then, on-block-end}
 use Rattle.perm_meaning.proofs.MovesAndCopies.Stacks.{stacks-other-variables, side-other-variables, side-variables}

@@ -9,7 +9,7 @@ use Rattle.perm_meaning.specs.NamedHeap.{Held}
 use Rattle.perm_meaning.specs.Relate.{OptionR}
 use Rattle.perm_meaning.specs.Values.{Eval, Gives, Traps, Mistyped}
 use Rattle.perm_meaning.specs.HoldsFewer.{IsPart, AreParts}
-use Rattle.perm_meaning.proofs.Related.{vars_at}
+use Rattle.perm_meaning.proofs.OnWords.Related.{vars_at}
 
 -- ---------- expressions ----------
 -- what is given is the same; of what is mistyped nothing is said

@@ -16,7 +16,7 @@ use Rattle.perm_meaning.specs.Turns.{turn}
 use Rattle.perm_meaning.specs.Steady.{AreApart, stays_l, stays_r, IsSteadyCode, IsSteady}
 use Rattle.perm_meaning.specs.HoldsFewer.{Frame, IsPart, AreParts, hidden, at_base, left_of, in_base, BranchHoldsFewer, going, gone, TaskHoldsFewer, leaf, fork, StateHoldsFewer, DidHoldsFewer, on, splits, ends, dies}
 use Rattle.perm_meaning.proofs.Leads.{some_inj, none_some, then_some, then_at}
-use Rattle.perm_meaning.proofs.Related.{vars_length}
+use Rattle.perm_meaning.proofs.OnWords.Related.{vars_length}
 use Rattle.perm_meaning.proofs.MovesAndCopies.Parts.{parts-same, only-parts, parts-at}
 use Rattle.perm_meaning.proofs.MovesAndCopies.Ends.{settled-fewer, StageHoldsFewer, stage-fewer, final-fewer, join-fewer, resumed-fewer}
 use Rattle.perm_meaning.proofs.MovesAndCopies.Turns.{TurnHoldsFewer, turn-fewer}

@@ -9,7 +9,7 @@ use Rattle.perm_meaning.specs.Custody.{mentions_l, mentions_r, back_l, back_r, f
 use Rattle.perm_meaning.specs.Machine.{Blocks}
 use Rattle.perm_meaning.specs.Steady.{AreApart, stays_l, stays_r, IsSteadyPar}
 use Rattle.perm_meaning.specs.HoldsFewer.{IsPart, AreParts, IsPartAt, ArePartsOn, AreKept}
-use Rattle.perm_meaning.proofs.Related.{vars_length}
+use Rattle.perm_meaning.proofs.OnWords.Related.{vars_length}
 use Rattle.perm_meaning.proofs.MovesAndCopies.Parts.{parts-at, part-at-then, parts-from-places, either-length, either-at}
 use Rattle.perm_meaning.proofs.MovesAndCopies.KeptVariables.{apart-left, apart-right}
 

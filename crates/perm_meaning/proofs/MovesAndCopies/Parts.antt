@@ -8,7 +8,7 @@ use Rattle.perm_meaning.specs.Custody.{from_either_at, only_at}
 use Rattle.perm_meaning.specs.Relate.{OptionR}
 use Rattle.perm_meaning.specs.HoldsFewer.{IsPart, AreParts, IsPartAt}
 use Rattle.perm_meaning.proofs.Leads.{some_inj}
-use Rattle.perm_meaning.proofs.Related.{vars_length, vars_at}
+use Rattle.perm_meaning.proofs.OnWords.Related.{vars_length, vars_at}
 
 -- ---------- values ----------
 pub part-same : (v : Held) → IsPart v v

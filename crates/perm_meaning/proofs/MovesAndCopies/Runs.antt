@@ -11,8 +11,8 @@ use Rattle.perm_meaning.specs.Custody.{Copies, Moves}
 use Rattle.perm_meaning.specs.Steady.{IsSteady}
 use Rattle.perm_meaning.specs.HoldsFewer.{at_base, in_base, going, leaf, StateHoldsFewer, FinalHoldsFewer}
 use Rattle.perm_meaning.proofs.Leads.{some_inj, none_some, unended}
-use Rattle.perm_meaning.proofs.Determined.{one_end, determined, over_at_rest, refused_at_rest}
-use Rattle.perm_meaning.proofs.WholeRun.{ends_as_meaning, fills_as_meaning}
+use Rattle.perm_meaning.proofs.LeftFirst.Determined.{one_end, determined, over_at_rest, refused_at_rest}
+use Rattle.perm_meaning.proofs.LeftFirst.WholeRun.{ends_as_meaning, fills_as_meaning}
 use Rattle.perm_meaning.proofs.MovesAndCopies.Parts.{parts-same}
 use Rattle.perm_meaning.proofs.MovesAndCopies.Ends.{final-fewer}
 use Rattle.perm_meaning.proofs.MovesAndCopies.Events.{runs-fewer}

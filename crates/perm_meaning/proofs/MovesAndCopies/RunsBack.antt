@@ -11,7 +11,7 @@ use Rattle.perm_meaning.specs.Custody.{Copies, Moves}
 use Rattle.perm_meaning.specs.Steady.{IsSteady}
 use Rattle.perm_meaning.specs.HoldsFewer.{StateHoldsFewer}
 use Rattle.perm_meaning.proofs.Leads.{some_inj, none_some, then_some, then_at, unended, ended_no_event}
-use Rattle.perm_meaning.proofs.WholeRun.{ends_as_meaning, fills_as_meaning}
+use Rattle.perm_meaning.proofs.LeftFirst.WholeRun.{ends_as_meaning, fills_as_meaning}
 use Rattle.perm_meaning.proofs.MovesAndCopies.Ends.{final-fewer}
 use Rattle.perm_meaning.proofs.MovesAndCopies.Events.{EventHoldsFewer, event-fewer}
 use Rattle.perm_meaning.proofs.MovesAndCopies.LeftFirst.{leftmost-alike}

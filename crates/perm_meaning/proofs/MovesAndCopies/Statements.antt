@@ -18,7 +18,7 @@ use Rattle.perm_meaning.specs.Turns.{lent_back}
 use Rattle.perm_meaning.specs.Steady.{AreApart, alters, KeepsLent, IsSteadyCode, IsSteady}
 use Rattle.perm_meaning.specs.HoldsFewer.{IsPart, AreParts, ArePartsOn, AreKept}
 use Rattle.perm_meaning.proofs.Leads.{some_inj}
-use Rattle.perm_meaning.proofs.Related.{vars_set}
+use Rattle.perm_meaning.proofs.OnWords.Related.{vars_set}
 use Rattle.perm_meaning.proofs.MovesAndCopies.Parts.{part-same, part-at-same}
 use Rattle.perm_meaning.proofs.MovesAndCopies.KeptVariables.{kept-same, kept-set, apart-left, apart-right, on-cleared-one, on-set}
 use Rattle.perm_meaning.proofs.MovesAndCopies.Ends.{parts-clear}

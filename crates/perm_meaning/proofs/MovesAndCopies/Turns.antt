@@ -18,7 +18,7 @@ use Rattle.perm_meaning.specs.Effects.{Act, Effect, Does, Sticks, depth_limit, e
 use Rattle.perm_meaning.specs.Machine.{Turn, Takes, NoTurn, OpenRecover, Splits}
 use Rattle.perm_meaning.specs.Steady.{AreApart, given_var, GivesOnlyTo, alters, changed, IsSteadyCode, IsSteady}
 use Rattle.perm_meaning.specs.HoldsFewer.{Frame, IsPart, AreParts, IsPartAt, ArePartsOn, AreKept, AreLaidBy, hidden, FitsStacks, at_base, at_block, left_of, LeavesAlone, in_block, in_recover, in_call, DidHoldsFewer, on, splits, ends, dies, at_recover, at_call}
-use Rattle.perm_meaning.proofs.Related.{vars_length, vars_set}
+use Rattle.perm_meaning.proofs.OnWords.Related.{vars_length, vars_set}
 use Rattle.perm_meaning.proofs.MovesAndCopies.Parts.{part-same, parts-same, only-parts, parts-at, parts-from-places, only-length, either-length, either-at}
 use Rattle.perm_meaning.proofs.MovesAndCopies.KeptVariables.{kept-same, kept-set, kept-into, kept-cleared, apart-left, apart-right, apart-plus, kept-right, on-cleared-one, on-set, on-into, on-then, on-block-end, on-fewer, apart-without}
 use Rattle.perm_meaning.proofs.MovesAndCopies.Stacks.{stacks-other-variables, stacks-other-code, changes-none-hidden, side-other-variables, side-other-code, side-variables, side-writes-none}
