@@ -9,3 +9,4 @@ pub mod CompleteLists
 pub mod LeftThenRight
 pub mod LeftFirst
 pub mod NumberReturned
+pub mod ToldEnds

@@ -1,0 +1,83 @@
+-- Where each event keeps the picture, a run that has ended tells a report, or that the heap is full: it is never told as stuck.
+use Rattle.std.proofs.Common.{◌≡◌, ◌≢◌, ℕ, zero, suc, true, Option, Some, None, List, [], ◌∷◌, sym, ap, subst, ◌∙◌}
+use Rattle.std.specs.Prelude.{ℤ}
+use Rattle.perm_tree.specs.Code.{Code, End, Give, Return, Do, If, While, Par, Recover, Routine, UnitCode}
+use Rattle.perm_meaning.specs.Machine.{Frame, Trapped, NoTurns, NoRoom, Close, Returning, Failing, Leaf, Fork, Way, Fine, GaveBack, Failed, over, stage_by_turns, stage_by_code, stage_from, final}
+use Rattle.perm_meaning.specs.NamedHeap.{Heap, Held, Final, Own, State, Task}
+use Rattle.perm_meaning.specs.Outcome.{RanStuck, reported, opening_state}
+use Rattle.perm_meaning.specs.Steps.{runs}
+use Rattle.perm_meaning.proofs.Leads.{some_inj, none_some}
+use Rattle.perm_meaning.proofs.SameName.{eq_itself}
+use Rattle.perm_core.specs.Core.{step, told_of, core_outcome}
+use Rattle.perm_core.specs.Endings.{ByReturn, branch_ends, tree_ends}
+use Rattle.perm_core.specs.Picture.{stands_in}
+use Rattle.perm_core.specs.NextPicture.{first_picture}
+use Rattle.perm_core.specs.Claims.{IsChecked, Opens}
+use Rattle.perm_core.proofs.OpeningPicture.{opens_with_picture}
+use Rattle.perm_core.proofs.KeepsPicture.NodePremises.{root-node}
+use Rattle.perm_core.proofs.KeepsPicture.Order.{event-of}
+use Rattle.perm_core.proofs.KeepsPicture.Sides.{root-keeps}
+use Rattle.perm_core.proofs.Serial.Needs.{runs-keep}
+use Rattle.perm_core.proofs.Serial.FreeRuns.{KeepsPictures, HasPicture, pictured-next}
+use Rattle.perm_core.proofs.Serial.NumberReturned.{IsNumber, ReturnsNumber, RootReturnsNumber, keeps-number}
+
+-- an end that is told
+abbrev pub IsTold : Final → Type 0
+IsTold (Fine vs t p) = ⊥
+IsTold (GaveBack v t p) = IsNumber v
+IsTold (Failed e t p) = Unit {0}
+
+by-turns-told : (n : ℕ) (l : Own) (f : Final) → over (stage_by_turns n l) ≡ Some f → IsTold f
+by-turns-told zero l f e = subst (λ z. IsTold z) (some_inj e) tt
+by-turns-told (suc n) l f e = none_some e
+
+closed-told : (c : Option (Close Held)) (a : Code) (st : List (Frame Held)) (n : ℕ) (l : Own) (f : Final) → branch_ends ByReturn c a st ≡ true → ReturnsNumber c → over (stage_from c (stage_by_code a st n l) n l) ≡ Some f → IsTold f
+closed-told (Some (Returning v)) a st n l f ends number e = subst (λ z. IsTold z) (some_inj e) number
+closed-told (Some (Failing x)) a st n l f ends number e = subst (λ z. IsTold z) (some_inj e) tt
+closed-told None End [] n l f ends number e = absurd (let no : ⊥ = cc ends in no)
+closed-told None End (g ∷ st) n l f ends number e = by-turns-told n l f e
+closed-told None (Give at w x) st n l f ends number e = by-turns-told n l f e
+closed-told None (Return at a) st n l f ends number e = by-turns-told n l f e
+closed-told None (Do at i rest) st n l f ends number e = by-turns-told n l f e
+closed-told None (If at x own1 a own2 b rest) st n l f ends number e = by-turns-told n l f e
+closed-told None (While at x own a rest) st n l f ends number e = by-turns-told n l f e
+closed-told None (Par at own1 a own2 b rest) st n l f ends number e = by-turns-told n l f e
+closed-told None (Recover at x own hides a rest) st n l f ends number e = by-turns-told n l f e
+
+root-told : (t : Task) (f : Final) → tree_ends ByReturn t ≡ true → RootReturnsNumber t → final t ≡ Some f → IsTold f
+root-told (Leaf b) f ends number e = closed-told b.close b.code b.stack b.turns b.own f ends number e
+root-told (Fork b p l r) f ends number e = none_some e
+
+told-unstuck : (turns : ℕ) (f : Final) (h : Heap) → IsTold f → reported turns f h ≢ RanStuck
+told-unstuck turns (Fine vs t p) h is e = absurd is
+told-unstuck turns (GaveBack v t p) h is e = let x = sym (ap (λ z. reported turns (GaveBack z t p) h) is.1) ∙ e in absurd (cc)
+told-unstuck turns (Failed (Trapped k at) t p) h is e = absurd (cc)
+told-unstuck turns (Failed NoTurns t p) h is e = absurd (cc)
+told-unstuck turns (Failed NoRoom t p) h is e = absurd (cc)
+
+module _ (u : UnitCode) where
+  -- a state with a picture whose root stands in `Run`, and has returned a number where it has returned
+  pub record RunsRun (s : State) : Type 0 where
+    pub picture : HasPicture u s
+    pub stands : stands_in u.run s.task ≡ true
+    pub number : RootReturnsNumber s.task
+
+  pub runs-told : (turns : ℕ) (s : State) (f : Final) → RunsRun s → final s.task ≡ Some f → core_outcome turns s ≢ Some RanStuck
+  runs-told turns s f is over e = told-unstuck turns f s.heap (root-told s.task f is.picture.1.orderly.ends is.number over) (some_inj (sym (ap (λ z. told_of turns s z) over) ∙ e))
+
+  module _ (checked : IsChecked u) (keeps : KeepsPictures u) (limit : ℕ) where
+    runs-next : (s t : State) (w : Way) → RunsRun s → step u limit s w ≡ Some t → RunsRun t
+    runs-next s t w is e =
+        let x = event-of u limit s t w e in
+        record {
+          picture = pictured-next u checked keeps limit s t w is.picture e;
+          stands = (root-keeps u u.run x.op x.told w s.task t.task is.stands x.event).stands;
+          number = keeps-number u checked is.picture.0 s.heap is.picture.1.orderly.goes.0 x.op x.told w s.task t.task (root-node u is.picture.0 s is.picture.1) is.stands is.number x.event;
+        }
+
+    -- an ended run from the opening is told
+    pub reaches-told : (input : List ℤ) (turns : ℕ) (r : Routine) (ws : List Way) (t : State) (f : Final) → Opens u limit input r → runs (step u limit) ws (opening_state u input turns r) ≡ Some t → final t.task ≡ Some f → core_outcome turns t ≢ Some RanStuck
+    reaches-told input turns r ws t f opens run over = runs-told turns t f (runs-keep (step u limit) RunsRun runs-next ws (opening_state u input turns r) t begins run) over
+      where
+        begins : RunsRun (opening_state u input turns r)
+        begins = record { picture = (first_picture, opens_with_picture u limit input turns r checked opens); stands = eq_itself u.run; number = tt }
