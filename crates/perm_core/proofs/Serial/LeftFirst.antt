@@ -1,20 +1,21 @@
--- A run of the core with the leftmost node first, which ends as running left then right does or comes to the refused allocation that fills the heap, is such a complete list of events.
-use Rattle.std.proofs.Common.{◌≡◌, ◌≢◌, ℕ, zero, suc, ◌⊎◌, inl, inr, Option, Some, None, List, [], ◌∷◌, ◌++◌, sym, ap, ◌∙◌}
+-- A run of the core with the leftmost node first that ends as the meaning says, or comes to the refused allocation that fills the heap, is a complete list of events that ends so: then all end so.
+use Rattle.std.proofs.Common.{◌≡◌, ◌≢◌, ℕ, zero, suc, Option, Some, None, List, [], ◌∷◌, ◌++◌, refl, sym, ap, ◌∙◌}
 use Rattle.std.specs.Prelude.{ℤ}
 use Rattle.perm_tree.specs.Code.{Routine, UnitCode}
 use Rattle.perm_meaning.specs.Machine.{Way, final}
 use Rattle.perm_meaning.specs.Effects.{Tick}
 use Rattle.perm_meaning.specs.NamedHeap.{Held, Op, Final, State, memory, find}
-use Rattle.perm_meaning.specs.Outcome.{RanFull, outcome, reported, opening_state}
+use Rattle.perm_meaning.specs.Outcome.{Outcome, Ran, RanFull, RanStuck, outcome, opening_state}
 use Rattle.perm_meaning.specs.Steps.{Answer, Found, Refused, Missing, runs, within, leftmost, next_state, answered, asked, granted, asked_with_care, careful, alone}
 use Rattle.perm_meaning.proofs.Leads.{none_some, then_some, then_at}
-use Rattle.perm_core.specs.Core.{core, look, step, told_of}
+use Rattle.perm_core.specs.Core.{core, look, step, core_outcome}
 use Rattle.perm_core.specs.Claims.{IsChecked, Opens}
+use Rattle.perm_core.specs.Unproved.{EndsLeftThenRight, RefusedWhereFull}
 use Rattle.perm_core.proofs.Serial.Needs.{runs-append}
 use Rattle.perm_core.proofs.Serial.FreeRuns.{KeepsPictures, HasPicture, pictured-next, completed}
 use Rattle.perm_core.proofs.Serial.Refusals.{LacksRoom, lacking-ends, refusal-lacks, runs-lack}
 use Rattle.perm_core.proofs.Serial.CompleteLists.{told-full}
-use Rattle.perm_core.proofs.Serial.LeftThenRight.{reaches-picture, EndsSo}
+use Rattle.perm_core.proofs.Serial.LeftThenRight.{reaches-picture, EndsSo, SomeEndsSo, ends-left-then-right, refused-where-full}
 
 module _ (u : UnitCode) (limit : ℕ) where
   -- an event that isn't a refused allocation is one
@@ -39,16 +40,14 @@ module _ (u : UnitCode) (limit : ℕ) where
       (leftmost s.task ∷ r.0, then_at (step u limit s (leftmost s.task)) (runs (step u limit) r.0) a.0 (careful-step s a.0 (leftmost s.task) a.1) ∙ r.1)
 
   module _ (input : List ℤ) (turns : ℕ) (r : Routine) where
-    -- the leftmost node first, the core ends as is told of the run
+    -- the leftmost node first, the core ends as the meaning says
     pub record EndsLeftFirst : Type 0 where
       pub events : ℕ
       pub state : State
-      pub ending : Final
       pub run : alone (core u) (memory u) (within limit) events (opening_state u input turns r) ≡ Some state
-      pub over : final state.task ≡ Some ending
-      pub told : reported turns ending state.heap ≡ outcome u input turns limit
+      pub told : core_outcome turns state ≡ Some (outcome u input turns limit)
 
-    -- or it comes to a refused allocation, where the heap doesn't hold the run
+    -- it comes to a refused allocation
     pub record FillsLeftFirst : Type 0 where
       pub events : ℕ
       pub state : State
@@ -56,15 +55,14 @@ module _ (u : UnitCode) (limit : ℕ) where
       pub run : alone (core u) (memory u) (within limit) events (opening_state u input turns r) ≡ Some state
       pub looked : look u (leftmost state.task) state.task ≡ Some op
       pub refused : find (within limit) op state.heap ≡ Refused
-      pub full : outcome u input turns limit ≡ RanFull
 
-    pub ends-left-first : EndsLeftFirst → EndsSo u limit input turns r
+    ends-left-first : EndsLeftFirst → EndsSo u limit input turns r
     ends-left-first x =
         let l = alone-listed x.events (opening_state u input turns r) x.state x.run in
-        record { events = l.0; end = x.state; run = l.1; told = ap (λ z. told_of turns x.state z) x.over ∙ ap (λ z. Some z) x.told }
+        record { events = l.0; end = x.state; run = l.1; told = x.told }
 
-    pub fills-left-first : KeepsPictures u → IsChecked u → Opens u limit input r → FillsLeftFirst → EndsSo u limit input turns r
-    fills-left-first keeps checked opens x = finish (completed u checked keeps limit after (pictured-next u checked keeps limit x.state after w pictured event))
+    fills-left-first : KeepsPictures u → IsChecked u → Opens u limit input r → outcome u input turns limit ≡ RanFull → FillsLeftFirst → EndsSo u limit input turns r
+    fills-left-first keeps checked opens full x = finish (completed u checked keeps limit after (pictured-next u checked keeps limit x.state after w pictured event))
       where
         w : Way
         w = leftmost x.state.task
@@ -93,10 +91,32 @@ module _ (u : UnitCode) (limit : ℕ) where
               events = l.0 ++ (w ∷ ws);
               end = t;
               run = runs-append (step u limit) (HasPicture u) l.0 (w ∷ ws) (opening_state u input turns r) x.state l.1 ∙ then_at (step u limit x.state w) (runs (step u limit) ws) after event ∙ run;
-              told = told-full turns t f over (lacking-ends t.task f (runs-lack u limit ws after t lacks run) over) ∙ ap (λ z. Some z) (sym x.full);
+              told = told-full turns t f over (lacking-ends t.task f (runs-lack u limit ws after t lacks run) over) ∙ ap (λ z. Some z) (sym full);
             }
 
-    -- a run left first, whichever way it goes, is a complete list of events that ends as running left then right does
-    pub left-first-so : KeepsPictures u → IsChecked u → Opens u limit input r → EndsLeftFirst ⊎ FillsLeftFirst → EndsSo u limit input turns r
-    left-first-so keeps checked opens (inl x) = ends-left-first x
-    left-first-so keeps checked opens (inr x) = fills-left-first keeps checked opens x
+  -- ---------- the claims ----------
+  module _ (input : List ℤ) (turns : ℕ) where
+    -- left first the core ends as the meaning says, or comes to the refused allocation where that fills the heap
+    pub record GoesLeftFirst : Type 0 where
+      pub ends : (r : Routine) → IsChecked u → Opens u limit input r → outcome u input turns limit ≢ RanFull → EndsLeftFirst input turns r
+      pub fills : (r : Routine) → IsChecked u → Opens u limit input r → outcome u input turns limit ≡ RanFull → FillsLeftFirst input turns r
+
+    full-or-not : (o : Outcome) → Dec (o ≡ RanFull)
+    full-or-not (Ran x) = no (λ e. absurd (cc))
+    full-or-not RanFull = yes refl
+    full-or-not RanStuck = no (λ e. absurd (cc))
+
+    -- so some complete list of events ends as the meaning says
+    pub goes-so : KeepsPictures u → GoesLeftFirst → SomeEndsSo u limit input turns
+    goes-so keeps goes r checked opens =
+        elim (full-or-not (outcome u input turns limit)) [
+          | yes full ↦ fills-left-first input turns r keeps checked opens full (goes.fills r checked opens full)
+          | no not ↦ ends-left-first input turns r (goes.ends r checked opens not)
+        ]
+
+    -- and all do
+    pub all-end-left-then-right : KeepsPictures u → GoesLeftFirst → EndsLeftThenRight u limit input turns
+    all-end-left-then-right keeps goes = ends-left-then-right u limit input turns keeps (goes-so keeps goes)
+
+    pub all-refused-where-full : KeepsPictures u → GoesLeftFirst → RefusedWhereFull u limit input turns
+    all-refused-where-full keeps goes = refused-where-full u limit input turns keeps (goes-so keeps goes)
