@@ -10,3 +10,4 @@ pub mod LeftThenRight
 pub mod LeftFirst
 pub mod NumberReturned
 pub mod ToldEnds
+pub mod LeftFirstStops

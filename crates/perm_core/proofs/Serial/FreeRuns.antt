@@ -1,11 +1,11 @@
 -- Lists of events without a limit on the heap: they keep that there is a picture, any two complete ones end in one state, and none needs more words than a complete one.
 use Rattle.std.proofs.Common.{◌≡◌, ◌≢◌, ℕ, ◌+◌, ◌≤◌, ◌⊎◌, inl, inr, Option, Some, None, List, refl, sym, ap, ◌∙◌, arith}
 use Rattle.perm_tree.specs.Code.{UnitCode}
-use Rattle.perm_meaning.specs.Machine.{Leaf, Fork, Way, Here, GoL, GoR, Final, stage, over, final, if_both_over}
+use Rattle.perm_meaning.specs.Machine.{Blocks, Leaf, Fork, Way, Here, GoL, GoR, Final, stage, over, final, if_both_over}
 use Rattle.perm_meaning.specs.Effects.{Tick}
 use Rattle.perm_meaning.specs.NamedHeap as named
 use Rattle.perm_meaning.specs.NamedHeap.{Held, Op, Task, State, memory}
-use Rattle.perm_meaning.specs.Steps.{runs, within, asked}
+use Rattle.perm_meaning.specs.Steps.{runs, within, leftmost, leftmost_of, asked}
 use Rattle.perm_meaning.proofs.Leads.{none_some, ended_no_event}
 use Rattle.perm_core.specs.Core.{core, look, step}
 use Rattle.perm_core.specs.Regions.{Labels}
@@ -38,36 +38,34 @@ way-or-other (GoR v) (GoR w) = elim (way-or-other v w) [ yes e ↦ yes (ap (λ z
     below : GoR v ≡ GoR w → v ≡ w
     below e = cc
 
--- some leaf isn't over
-pub record LeafRuns (t : Task) : Type 0 where
-  pub way : Way
+-- the leaf at a node isn't over
+pub record IsRunning (w : Way) (t : Task) : Type 0 where
   pub branch : named.Branch
-  pub there : leaf_at way t ≡ Some branch
+  pub there : leaf_at w t ≡ Some branch
   pub running : over (stage branch) ≡ None
 
 module _ (u : UnitCode) where
-  -- some parent's sides are both over
-  pub record SidesOver (t : Task) : Type 0 where
-    pub way : Way
-    pub event : look u way t ≡ Some Tick
+  -- the node is a leaf that isn't over, or a parent whose sides are
+  abbrev pub IsNext : Way → Task → Type 0
+  IsNext w t = IsRunning w t ⊎ (look u w t ≡ Some Tick)
 
-  -- a tree that hasn't ended has a leaf that isn't over, or a parent whose sides are
-  pub unended-next : (t : Task) → final t ≡ None → LeafRuns t ⊎ SidesOver t
-  unended-next (Leaf b) e = inl (record { way = Here; branch = b; there = refl; running = e })
-  unended-next (Fork b p l r) e = go (λ q. unended-next l q) (λ q. unended-next r q) (final l) (final r) refl refl
+  in-left : (b : named.Branch) (p : Blocks) (l r : Task) (w : Way) → IsNext w l → IsNext (GoL w) (Fork b p l r)
+  in-left b p l r w (inl x) = inl (record { branch = x.branch; there = x.there; running = x.running })
+  in-left b p l r w (inr e) = inr e
+
+  in-right : (b : named.Branch) (p : Blocks) (l r : Task) (w : Way) → IsNext w r → IsNext (GoR w) (Fork b p l r)
+  in-right b p l r w (inl x) = inl (record { branch = x.branch; there = x.there; running = x.running })
+  in-right b p l r w (inr e) = inr e
+
+  -- so is the leftmost node of a tree that hasn't ended
+  pub leftmost-next : (t : Task) → final t ≡ None → IsNext (leftmost t) t
+  leftmost-next (Leaf b) e = inl (record { branch = b; there = refl; running = e })
+  leftmost-next (Fork b p l r) e = go (λ q. leftmost-next l q) (λ q. leftmost-next r q) (final l) (final r) refl refl
     where
-      right : LeafRuns r ⊎ SidesOver r → LeafRuns (Fork b p l r) ⊎ SidesOver (Fork b p l r)
-      right (inl x) = inl (record { way = GoR x.way; branch = x.branch; there = x.there; running = x.running })
-      right (inr x) = inr (record { way = GoR x.way; event = x.event })
-
-      left : LeafRuns l ⊎ SidesOver l → LeafRuns (Fork b p l r) ⊎ SidesOver (Fork b p l r)
-      left (inl x) = inl (record { way = GoL x.way; branch = x.branch; there = x.there; running = x.running })
-      left (inr x) = inr (record { way = GoL x.way; event = x.event })
-
-      go : (final l ≡ None → LeafRuns l ⊎ SidesOver l) → (final r ≡ None → LeafRuns r ⊎ SidesOver r) → (x y : Option (Final Held)) → final l ≡ x → final r ≡ y → LeafRuns (Fork b p l r) ⊎ SidesOver (Fork b p l r)
-      go of_left of_right None y p q = left (of_left p)
-      go of_left of_right (Some x) None p q = right (of_right q)
-      go of_left of_right (Some x) (Some y) p q = inr (record { way = Here; event = ap (λ z. if_both_over z (final r) None (λ x y. Some Tick)) p ∙ ap (λ z. if_both_over (Some x) z None (λ x y. Some Tick)) q })
+      go : (final l ≡ None → IsNext (leftmost l) l) → (final r ≡ None → IsNext (leftmost r) r) → (x y : Option (Final Held)) → final l ≡ x → final r ≡ y → IsNext (leftmost_of x y (leftmost l) (leftmost r)) (Fork b p l r)
+      go of_left of_right None y j k = in-left b p l r (leftmost l) (of_left j)
+      go of_left of_right (Some x) None j k = in-right b p l r (leftmost r) (of_right k)
+      go of_left of_right (Some x) (Some y) j k = inr (ap (λ z. if_both_over z (final r) None (λ x y. Some Tick)) j ∙ ap (λ z. if_both_over (Some x) z None (λ x y. Some Tick)) k)
 
 -- ---------- pictures ----------
 -- each event keeps the picture, whatever the heap holds
@@ -79,24 +77,19 @@ abbrev pub HasPicture : UnitCode → State → Type 0
 HasPicture u s = (labels : Labels) × IsPicture u labels s
 
 module _ (u : UnitCode) (checked : IsChecked u) where
-  -- the node of an event
-  abbrev node : {t : Task} → LeafRuns t ⊎ SidesOver u t → Way
-  node (inl x) = x.way
-  node (inr x) = x.way
+  node-next : (limit : ℕ) (s : State) (w : Way) → HasPicture u s → IsNext u w s.task → (t : State) × (step u limit s w ≡ Some t)
+  node-next limit s w picture (inl x) = has_next u limit picture.0 s checked picture.1 w x.branch x.there x.running
+  node-next limit s w picture (inr e) = (_, ap (λ o. asked (core u) (memory u) (within limit) s w o) e)
 
-  node-next : (limit : ℕ) (s : State) → HasPicture u s → (x : LeafRuns s.task ⊎ SidesOver u s.task) → (t : State) × (step u limit s (node x) ≡ Some t)
-  node-next limit s picture (inl x) = has_next u limit picture.0 s checked picture.1 x.way x.branch x.there x.running
-  node-next limit s picture (inr x) = (_, ap (λ o. asked (core u) (memory u) (within limit) s x.way o) x.event)
+  -- a state with a picture has ended, or its leftmost node has an event
+  abbrev pub NextOrOver : ℕ → State → Type 0
+  NextOrOver limit s = ((t : State) × (step u limit s (leftmost s.task) ≡ Some t)) ⊎ ((f : Final Held) × (final s.task ≡ Some f))
 
-  -- a state with a picture has an event, or it has ended
-  pub next-or-over : (limit : ℕ) (s : State) → HasPicture u s → ((w : Way) × (t : State) × (step u limit s w ≡ Some t)) ⊎ ((f : Final Held) × (final s.task ≡ Some f))
+  pub next-or-over : (limit : ℕ) (s : State) → HasPicture u s → NextOrOver limit s
   next-or-over limit s picture = go (final s.task) refl
     where
-      event : LeafRuns s.task ⊎ SidesOver u s.task → (w : Way) × (t : State) × (step u limit s w ≡ Some t)
-      event x = let y = node-next limit s picture x in (node x, y.0, y.1)
-
-      go : (x : Option (Final Held)) → final s.task ≡ x → ((w : Way) × (t : State) × (step u limit s w ≡ Some t)) ⊎ ((f : Final Held) × (final s.task ≡ Some f))
-      go None q = inl (event (unended-next u s.task q))
+      go : (x : Option (Final Held)) → final s.task ≡ x → NextOrOver limit s
+      go None q = inl (node-next limit s (leftmost s.task) picture (leftmost-next u s.task q))
       go (Some f) q = inr (f, q)
 
   -- a state that has ended has no event, with or without a limit
@@ -133,17 +126,14 @@ module _ (u : UnitCode) (checked : IsChecked u) where
         (x.0, within-free limit a x.0 q a_q x.1, within-free limit b x.0 p b_p x.2)
 
     free-next : (s : State) → HasPicture u s → GoesOrEnds (free_step u) s
-    free-next s picture = go (final s.task) refl
+    free-next s picture = go (next-or-over (s.heap.given + asks u s (leftmost s.task)) s picture)
       where
-        event : LeafRuns s.task ⊎ SidesOver u s.task → GoesOrEnds (free_step u) s
-        event x =
-            let limit = s.heap.given + asks u s (node x) in
-            let y = node-next limit s picture x in
-            inl (node x, y.0, within-free limit s y.0 (node x) (omega arith) y.1)
+        w : Way
+        w = leftmost s.task
 
-        go : (x : Option (Final Held)) → final s.task ≡ x → GoesOrEnds (free_step u) s
-        go None q = event (unended-next u s.task q)
-        go (Some f) q = inr (over-free s f q)
+        go : NextOrOver (s.heap.given + asks u s w) s → GoesOrEnds (free_step u) s
+        go (inl x) = inl (w, x.0, within-free (s.heap.given + asks u s w) s x.0 w (omega arith) x.1)
+        go (inr x) = inr (over-free s x.0 x.1)
 
     -- ---------- lists ----------
     free-commutes : Commutes (free_step u) (HasPicture u)
@@ -161,7 +151,7 @@ module _ (u : UnitCode) (checked : IsChecked u) where
     completed limit s picture = over_at (complete (step u limit) (HasPicture u) fuel terminates s picture)
       where
         end_or_on : (t : State) → HasPicture u t → GoesOrEnds (step u limit) t
-        end_or_on t is = elim (next-or-over limit t is) [ inl x ↦ inl x | inr x ↦ inr (over-final limit t x.0 x.1) ]
+        end_or_on t is = elim (next-or-over limit t is) [ inl x ↦ inl (leftmost t.task, x.0, x.1) | inr x ↦ inr (over-final limit t x.0 x.1) ]
 
         terminates : Terminates (step u limit) (HasPicture u) fuel
         terminates = record { keeps = pictured-next limit; falls = λ s t w e. step-less (core u) (memory u) (within limit) s t w e; goes = end_or_on }
@@ -169,8 +159,8 @@ module _ (u : UnitCode) (checked : IsChecked u) where
         over_at : (c : Completed (step u limit) s) → (ws : List Way) × (t : State) × (f : Final Held) × (runs (step u limit) ws s ≡ Some t) × (final t.task ≡ Some f)
         over_at c = go (next-or-over limit c.end (runs-keep (step u limit) (HasPicture u) (pictured-next limit) c.events s c.end picture c.run))
           where
-            go : ((w : Way) × (t : State) × (step u limit c.end w ≡ Some t)) ⊎ ((f : Final Held) × (final c.end.task ≡ Some f)) → (ws : List Way) × (t : State) × (f : Final Held) × (runs (step u limit) ws s ≡ Some t) × (final t.task ≡ Some f)
-            go (inl x) = none_some (sym (c.final x.0) ∙ x.2)
+            go : NextOrOver limit c.end → (ws : List Way) × (t : State) × (f : Final Held) × (runs (step u limit) ws s ≡ Some t) × (final t.task ≡ Some f)
+            go (inl x) = none_some (sym (c.final (leftmost c.end.task)) ∙ x.1)
             go (inr x) = (c.events, c.end, x.0, c.run, x.1)
 
     -- two complete lists without a limit end in one state
