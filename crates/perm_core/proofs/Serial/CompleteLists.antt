@@ -4,11 +4,10 @@ use Rattle.perm_tree.specs.Code.{UnitCode}
 use Rattle.perm_meaning.specs.Machine.{Way, Fine, GaveBack, Failed, final}
 use Rattle.perm_meaning.specs.NamedHeap.{Heap, Final, State}
 use Rattle.perm_meaning.specs.Outcome.{RanFull, reported}
-use Rattle.perm_meaning.specs.Steps.{runs}
-use Rattle.perm_core.specs.Core.{step, told_of, core_outcome}
+use Rattle.perm_core.specs.Core.{told_of, core_outcome}
 use Rattle.perm_core.specs.Claims.{IsChecked}
 use Rattle.perm_core.specs.Unproved.{SomeRefused}
-use Rattle.perm_core.proofs.Serial.FreeRuns.{KeepsPictures, HasPicture, free-confluent, free-never-more}
+use Rattle.perm_core.proofs.Serial.FreeRuns.{KeepsPictures, HasPicture, Complete, free-confluent, free-never-more}
 use Rattle.perm_core.proofs.Serial.Refusals.{EndsFull, lacking-ends, refused-lacks, some-refused-or-not, unrefused-runs-free, unrefused-runs-within, refused-list-exceeds}
 
 -- a state that ended for want of room tells that the heap is full
@@ -19,12 +18,6 @@ reported-full turns (Failed e t p) h is = ap (λ z. reported turns (Failed z t p
 
 pub told-full : (turns : ℕ) (s : State) (f : Final) → final s.task ≡ Some f → EndsFull f → core_outcome turns s ≡ Some RanFull
 told-full turns s f e is = ap (λ z. told_of turns s z) e ∙ ap (λ z. Some z) (reported-full turns f s.heap is)
-
--- a list of events to a state that has ended
-pub record Complete (u : UnitCode) (limit : ℕ) (s : State) (ws : List Way) (t : State) : Type 0 where
-  pub run : runs (step u limit) ws s ≡ Some t
-  pub ending : Final
-  pub over : final t.task ≡ Some ending
 
 module _ (u : UnitCode) (checked : IsChecked u) (keeps : KeepsPictures u) (limit : ℕ) (s : State) (picture : HasPicture u s) where
   -- two complete lists without a refused allocation end in one state

@@ -76,6 +76,12 @@ KeepsPictures u = (limit : ℕ) → KeepsPicture u limit
 abbrev pub HasPicture : UnitCode → State → Type 0
 HasPicture u s = (labels : Labels) × IsPicture u labels s
 
+-- a list of events from the one state to the other, which has ended
+pub record Complete (u : UnitCode) (limit : ℕ) (s : State) (ws : List Way) (t : State) : Type 0 where
+  pub run : runs (step u limit) ws s ≡ Some t
+  pub ending : Final Held
+  pub over : final t.task ≡ Some ending
+
 module _ (u : UnitCode) (checked : IsChecked u) where
   node-next : (limit : ℕ) (s : State) (w : Way) → HasPicture u s → IsNext u w s.task → (t : State) × (step u limit s w ≡ Some t)
   node-next limit s w picture (inl x) = has_next u limit picture.0 s checked picture.1 w x.branch x.there x.running
@@ -147,7 +153,7 @@ module _ (u : UnitCode) (checked : IsChecked u) where
     free-terminates = record { keeps = free-pictured; falls = λ s t w e. step-less (core u) (memory u) no_limit s t w e; goes = free-next }
 
     -- within a limit each list can be completed
-    pub completed : (limit : ℕ) (s : State) → HasPicture u s → (ws : List Way) × (t : State) × (f : Final Held) × (runs (step u limit) ws s ≡ Some t) × (final t.task ≡ Some f)
+    pub completed : (limit : ℕ) (s : State) → HasPicture u s → (ws : List Way) × (t : State) × Complete u limit s ws t
     completed limit s picture = over_at (complete (step u limit) (HasPicture u) fuel terminates s picture)
       where
         end_or_on : (t : State) → HasPicture u t → GoesOrEnds (step u limit) t
@@ -156,12 +162,12 @@ module _ (u : UnitCode) (checked : IsChecked u) where
         terminates : Terminates (step u limit) (HasPicture u) fuel
         terminates = record { keeps = pictured-next limit; falls = λ s t w e. step-less (core u) (memory u) (within limit) s t w e; goes = end_or_on }
 
-        over_at : (c : Completed (step u limit) s) → (ws : List Way) × (t : State) × (f : Final Held) × (runs (step u limit) ws s ≡ Some t) × (final t.task ≡ Some f)
+        over_at : (c : Completed (step u limit) s) → (ws : List Way) × (t : State) × Complete u limit s ws t
         over_at c = go (next-or-over limit c.end (runs-keep (step u limit) (HasPicture u) (pictured-next limit) c.events s c.end picture c.run))
           where
-            go : NextOrOver limit c.end → (ws : List Way) × (t : State) × (f : Final Held) × (runs (step u limit) ws s ≡ Some t) × (final t.task ≡ Some f)
+            go : NextOrOver limit c.end → (ws : List Way) × (t : State) × Complete u limit s ws t
             go (inl x) = none_some (sym (c.final (leftmost c.end.task)) ∙ x.1)
-            go (inr x) = (c.events, c.end, x.0, c.run, x.1)
+            go (inr x) = (c.events, c.end, record { run = c.run; ending = x.0; over = x.1 })
 
     -- two complete lists without a limit end in one state
     pub free-confluent : (s a b : State) (f g : Final Held) (vs ws : List Way) → HasPicture u s → runs (free_step u) vs s ≡ Some a → final a.task ≡ Some f → runs (free_step u) ws s ≡ Some b → final b.task ≡ Some g → a ≡ b

@@ -2,9 +2,9 @@
 use Rattle.std.proofs.Common.{◌≡◌, ◌≢◌, ℕ, zero, suc, Option, Some, None, List, [], ◌∷◌, ◌++◌, refl, sym, ap, ◌∙◌}
 use Rattle.std.specs.Prelude.{ℤ}
 use Rattle.perm_tree.specs.Code.{Routine, UnitCode}
-use Rattle.perm_meaning.specs.Machine.{Way, final}
+use Rattle.perm_meaning.specs.Machine.{Way}
 use Rattle.perm_meaning.specs.Effects.{Tick}
-use Rattle.perm_meaning.specs.NamedHeap.{Held, Op, Final, State, memory, find}
+use Rattle.perm_meaning.specs.NamedHeap.{Held, Op, State, memory, find}
 use Rattle.perm_meaning.specs.Outcome.{Outcome, Ran, RanFull, RanStuck, outcome, opening_state}
 use Rattle.perm_meaning.specs.Steps.{Answer, Found, Refused, Missing, runs, within, leftmost, next_state, answered, asked, granted, asked_with_care, careful, alone}
 use Rattle.perm_meaning.proofs.Leads.{none_some, then_some, then_at}
@@ -12,7 +12,7 @@ use Rattle.perm_core.specs.Core.{core, look, step, core_outcome}
 use Rattle.perm_core.specs.Claims.{IsChecked, Opens}
 use Rattle.perm_core.specs.Unproved.{EndsLeftThenRight, RefusedWhereFull}
 use Rattle.perm_core.proofs.Serial.Needs.{runs-append}
-use Rattle.perm_core.proofs.Serial.FreeRuns.{KeepsPictures, HasPicture, pictured-next, completed}
+use Rattle.perm_core.proofs.Serial.FreeRuns.{KeepsPictures, HasPicture, Complete, pictured-next, completed}
 use Rattle.perm_core.proofs.Serial.Refusals.{LacksRoom, lacking-ends, refusal-lacks, runs-lack}
 use Rattle.perm_core.proofs.Serial.CompleteLists.{told-full}
 use Rattle.perm_core.proofs.Serial.LeftThenRight.{reaches-picture, EndsSo, SomeEndsSo, ends-left-then-right, refused-where-full}
@@ -85,13 +85,13 @@ module _ (u : UnitCode) (limit : ℕ) where
         lacks : LacksRoom after.task
         lacks = refusal-lacks u w x.state.task x.op x.looked isnt_tick
 
-        finish : (ws : List Way) × (t : State) × (f : Final) × (runs (step u limit) ws after ≡ Some t) × (final t.task ≡ Some f) → EndsSo u limit input turns r
-        finish (ws, t, f, run, over) =
+        finish : (ws : List Way) × (t : State) × Complete u limit after ws t → EndsSo u limit input turns r
+        finish (ws, t, c) =
             record {
               events = l.0 ++ (w ∷ ws);
               end = t;
-              run = runs-append (step u limit) (HasPicture u) l.0 (w ∷ ws) (opening_state u input turns r) x.state l.1 ∙ then_at (step u limit x.state w) (runs (step u limit) ws) after event ∙ run;
-              told = told-full turns t f over (lacking-ends t.task f (runs-lack u limit ws after t lacks run) over) ∙ ap (λ z. Some z) (sym full);
+              run = runs-append (step u limit) l.0 (w ∷ ws) (opening_state u input turns r) x.state l.1 ∙ then_at (step u limit x.state w) (runs (step u limit) ws) after event ∙ c.run;
+              told = told-full turns t c.ending c.over (lacking-ends t.task c.ending (runs-lack u limit ws after t lacks c.run) c.over) ∙ ap (λ z. Some z) (sym full);
             }
 
   -- ---------- the claims ----------

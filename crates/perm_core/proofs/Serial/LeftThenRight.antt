@@ -16,10 +16,10 @@ use Rattle.perm_core.proofs.Commute.Conflicts.{has_no_conflict}
 use Rattle.perm_core.proofs.Progress.NextEvents.{has_next}
 use Rattle.perm_core.proofs.OpeningPicture.{opens_with_picture}
 use Rattle.perm_core.proofs.Serial.Needs.{runs-keep}
-use Rattle.perm_core.proofs.Serial.FreeRuns.{KeepsPictures, HasPicture, pictured-next}
+use Rattle.perm_core.proofs.Serial.FreeRuns.{KeepsPictures, HasPicture, Complete, pictured-next}
 use Rattle.perm_core.proofs.Serial.Refusals.{EndsFull, lacking-ends, refused-lacks, some-refused-or-not, unrefused-runs-free}
 use Rattle.perm_core.proofs.Serial.RoomKept.{roomy-ends, free-runs-room}
-use Rattle.perm_core.proofs.Serial.CompleteLists.{Complete, told-full, ends-alike}
+use Rattle.perm_core.proofs.Serial.CompleteLists.{told-full, ends-alike}
 
 -- ---------- what is told of an ended root ----------
 given-not-full : (turns : ℕ) (v : Held) (t : ℕ) (p : List ℤ) (h : Heap) → reported turns (GaveBack v t p) h ≢ RanFull

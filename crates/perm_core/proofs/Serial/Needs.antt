@@ -21,7 +21,7 @@ pub record Completed {S E : Type 0} (step : S → E → Option S) (s : S) : Type
   pub run : runs step events s ≡ Some end
   pub final : IsFinal step end
 
-module _ {S E : Type 0} (step : S → E → Option S) (I : S → Type 0) where
+module _ {S E : Type 0} (step : S → E → Option S) where
   -- one list after another
   pub runs-append : (xs ys : List E) (s t : S) → runs step xs s ≡ Some t → runs step (xs ++ ys) s ≡ runs step ys t
   runs-append [] ys s t e = ap (λ z. runs step ys z) (some_inj e)
@@ -29,6 +29,7 @@ module _ {S E : Type 0} (step : S → E → Option S) (I : S → Type 0) where
       let a = then_some (step s x) (runs step xs) t e in
       then_at (step s x) (runs step (xs ++ ys)) a.0 a.1 ∙ runs-append xs ys a.0 t a.2
 
+module _ {S E : Type 0} (step : S → E → Option S) (I : S → Type 0) where
   -- what each event keeps, a list keeps
   pub runs-keep : ((s t : S) (e : E) → I s → step s e ≡ Some t → I t) → (xs : List E) (s t : S) → I s → runs step xs s ≡ Some t → I t
   runs-keep keeps [] s t i e = subst (λ z. I z) (some_inj e) i
@@ -62,6 +63,6 @@ module _ {S E : Type 0} (step : S → E → Option S) (I : S → Type 0) where
       pub never-more : (xs ys : List E) (s a b : S) → I s → runs step xs s ≡ Some a → IsFinal step a → runs step ys s ≡ Some b → need b ≤ need a
       never-more xs ys s a b i p f q =
           let c = complete b (runs-keep m.keeps ys s b i q) in
-          let r = confluent step I dec m xs (ys ++ c.events) s a c.end i p f (runs-append ys c.events s b q ∙ c.run) c.final in
+          let r = confluent step I dec m xs (ys ++ c.events) s a c.end i p f (runs-append step ys c.events s b q ∙ c.run) c.final in
           let more = need-grows c.events b c.end c.run in
           subst (λ z. need b ≤ need z) (sym r.0) more
