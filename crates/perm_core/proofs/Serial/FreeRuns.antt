@@ -21,6 +21,7 @@ use Rattle.perm_core.proofs.Serial.Needs.{GoesOrEnds, Terminates, Completed, run
 use Rattle.perm_core.proofs.Serial.FreeSteps.{no_limit, free_step, asks, roomy-unrefused, unrefused-free, free-grows}
 
 -- ---------- nodes ----------
+-- two nodes are one, or they aren't
 pub way-or-other : (v w : Way) → Dec (v ≡ w)
 way-or-other Here Here = yes refl
 way-or-other Here (GoL w) = no (λ e. absurd (cc))

@@ -32,7 +32,7 @@ module _ (u : UnitCode) (limit : ℕ) where
       go (Some o) e = reply o (find (within limit) o s.heap) e
 
   -- so many events at the leftmost node are a list of events
-  alone-listed : (n : ℕ) (s t : State) → alone (core u) (memory u) (within limit) n s ≡ Some t → (ws : List Way) × (runs (step u limit) ws s ≡ Some t)
+  pub alone-listed : (n : ℕ) (s t : State) → alone (core u) (memory u) (within limit) n s ≡ Some t → (ws : List Way) × (runs (step u limit) ws s ≡ Some t)
   alone-listed zero s t e = ([], e)
   alone-listed (suc n) s t e =
       let a = then_some (careful (core u) (memory u) (within limit) s (leftmost s.task)) (alone (core u) (memory u) (within limit) n) t e in

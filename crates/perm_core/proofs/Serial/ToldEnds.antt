@@ -3,12 +3,12 @@ use Rattle.std.proofs.Common.{◌≡◌, ◌≢◌, ℕ, zero, suc, true, Option
 use Rattle.std.specs.Prelude.{ℤ}
 use Rattle.perm_tree.specs.Code.{Code, End, Give, Return, Do, If, While, Par, Recover, Routine, UnitCode}
 use Rattle.perm_meaning.specs.Machine.{Frame, Trapped, NoTurns, NoRoom, Close, Returning, Failing, Leaf, Fork, Way, Fine, GaveBack, Failed, over, stage_by_turns, stage_by_code, stage_from, final}
-use Rattle.perm_meaning.specs.NamedHeap.{Heap, Held, Final, Own, State, Task}
+use Rattle.perm_meaning.specs.NamedHeap.{Heap, Held, Final, Own, State, Task, memory}
 use Rattle.perm_meaning.specs.Outcome.{RanStuck, reported, opening_state}
-use Rattle.perm_meaning.specs.Steps.{runs}
+use Rattle.perm_meaning.specs.Steps.{runs, within, alone}
 use Rattle.perm_meaning.proofs.Leads.{some_inj, none_some}
 use Rattle.perm_meaning.proofs.SameName.{eq_itself}
-use Rattle.perm_core.specs.Core.{step, told_of, core_outcome}
+use Rattle.perm_core.specs.Core.{core, step, told_of, core_outcome}
 use Rattle.perm_core.specs.Endings.{ByReturn, branch_ends, tree_ends}
 use Rattle.perm_core.specs.Picture.{stands_in}
 use Rattle.perm_core.specs.NextPicture.{first_picture}
@@ -19,6 +19,7 @@ use Rattle.perm_core.proofs.KeepsPicture.Order.{event-of}
 use Rattle.perm_core.proofs.KeepsPicture.Sides.{root-keeps}
 use Rattle.perm_core.proofs.Serial.Needs.{runs-keep}
 use Rattle.perm_core.proofs.Serial.FreeRuns.{KeepsPictures, HasPicture, pictured-next}
+use Rattle.perm_core.proofs.Serial.LeftFirst.{alone-listed}
 use Rattle.perm_core.proofs.Serial.NumberReturned.{IsNumber, ReturnsNumber, RootReturnsNumber, keeps-number}
 
 -- an end that is told
@@ -76,8 +77,13 @@ module _ (u : UnitCode) where
         }
 
     -- an ended run from the opening is told
-    pub reaches-told : (input : List ℤ) (turns : ℕ) (r : Routine) (ws : List Way) (t : State) (f : Final) → Opens u limit input r → runs (step u limit) ws (opening_state u input turns r) ≡ Some t → final t.task ≡ Some f → core_outcome turns t ≢ Some RanStuck
-    reaches-told input turns r ws t f opens run over = runs-told turns t f (runs-keep (step u limit) RunsRun runs-next ws (opening_state u input turns r) t begins run) over
-      where
-        begins : RunsRun (opening_state u input turns r)
-        begins = record { picture = (first_picture, opens_with_picture u limit input turns r checked opens); stands = eq_itself u.run; number = tt }
+    module _ (input : List ℤ) (turns : ℕ) (r : Routine) (opens : Opens u limit input r) where
+      pub reaches-told : (ws : List Way) (t : State) (f : Final) → runs (step u limit) ws (opening_state u input turns r) ≡ Some t → final t.task ≡ Some f → core_outcome turns t ≢ Some RanStuck
+      reaches-told ws t f run over = runs-told turns t f (runs-keep (step u limit) RunsRun runs-next ws (opening_state u input turns r) t begins run) over
+        where
+          begins : RunsRun (opening_state u input turns r)
+          begins = record { picture = (first_picture, opens_with_picture u limit input turns r checked opens); stands = eq_itself u.run; number = tt }
+
+      -- so is one with the leftmost node first
+      pub left-first-told : (n : ℕ) (t : State) (f : Final) → alone (core u) (memory u) (within limit) n (opening_state u input turns r) ≡ Some t → final t.task ≡ Some f → core_outcome turns t ≢ Some RanStuck
+      left-first-told n t f run over = let l = alone-listed u limit n (opening_state u input turns r) t run in reaches-told l.0 t f l.1 over
