@@ -5,7 +5,7 @@ use Rattle.perm_tree.specs.Code.{Routine, UnitCode}
 use Rattle.perm_meaning.specs.Values.{Number}
 use Rattle.perm_meaning.specs.Machine.{Way, NoRoom, NoTurns, Trapped, Fine, GaveBack, Failed, final}
 use Rattle.perm_meaning.specs.NamedHeap.{Heap, Held, Final, State}
-use Rattle.perm_meaning.specs.Outcome.{RanFull, outcome, reported, opening_state}
+use Rattle.perm_meaning.specs.Outcome.{Outcome, RanFull, outcome, reported, opening_state}
 use Rattle.perm_meaning.specs.Steps.{runs}
 use Rattle.perm_meaning.proofs.Leads.{some_inj, none_some}
 use Rattle.perm_core.specs.Core.{step, told_of, core_outcome, Conflict}
@@ -65,10 +65,11 @@ module _ (u : UnitCode) (limit : ℕ) (input : List ℤ) (turns : ℕ) where
   abbrev pub SomeEndsSo : Type 0
   SomeEndsSo = (r : Routine) → IsChecked u → Opens u limit input r → EndsSo r
 
-  ended : (s : State) (r : _) → core_outcome turns s ≡ Some r → (f : Final) × (final s.task ≡ Some f)
-  ended s r = go (final s.task)
+  -- a state of which something is told has ended
+  pub ended : (s : State) (o : Outcome) → core_outcome turns s ≡ Some o → (f : Final) × (final s.task ≡ Some f)
+  ended s o = go (final s.task)
     where
-      go : (x : Option Final) → told_of turns s x ≡ Some r → (f : Final) × (x ≡ Some f)
+      go : (x : Option Final) → told_of turns s x ≡ Some o → (f : Final) × (x ≡ Some f)
       go None e = none_some e
       go (Some f) e = (f, refl)
 

@@ -1,10 +1,10 @@
--- Where each event keeps the picture, a run that has ended tells a report, or that the heap is full: it is never told as stuck.
+-- Where each event keeps the picture, a run that has ended tells a report, or that the heap is full: neither it nor the meaning is ever stuck.
 use Rattle.std.proofs.Common.{◌≡◌, ◌≢◌, ℕ, zero, suc, true, Option, Some, None, List, [], ◌∷◌, sym, ap, subst, ◌∙◌}
 use Rattle.std.specs.Prelude.{ℤ}
 use Rattle.perm_tree.specs.Code.{Code, End, Give, Return, Do, If, While, Par, Recover, Routine, UnitCode}
 use Rattle.perm_meaning.specs.Machine.{Frame, Trapped, NoTurns, NoRoom, Close, Returning, Failing, Leaf, Fork, Way, Fine, GaveBack, Failed, over, stage_by_turns, stage_by_code, stage_from, final}
 use Rattle.perm_meaning.specs.NamedHeap.{Heap, Held, Final, Own, State, Task, memory}
-use Rattle.perm_meaning.specs.Outcome.{RanStuck, reported, opening_state}
+use Rattle.perm_meaning.specs.Outcome.{RanStuck, outcome, reported, opening_state}
 use Rattle.perm_meaning.specs.Steps.{runs, within, alone}
 use Rattle.perm_meaning.proofs.Leads.{some_inj, none_some}
 use Rattle.perm_meaning.proofs.SameName.{eq_itself}
@@ -20,6 +20,7 @@ use Rattle.perm_core.proofs.KeepsPicture.Sides.{root-keeps}
 use Rattle.perm_core.proofs.Serial.Needs.{runs-keep}
 use Rattle.perm_core.proofs.Serial.FreeRuns.{KeepsPictures, HasPicture, pictured-next}
 use Rattle.perm_core.proofs.Serial.LeftFirst.{alone-listed}
+use Rattle.perm_core.proofs.Serial.LeftThenRight.{SomeEndsSo, ended}
 use Rattle.perm_core.proofs.Serial.NumberReturned.{IsNumber, ReturnsNumber, RootReturnsNumber, keeps-number}
 
 -- an end that is told
@@ -87,3 +88,10 @@ module _ (u : UnitCode) where
       -- so is one with the leftmost node first
       pub left-first-told : (n : ℕ) (t : State) (f : Final) → alone (core u) (memory u) (within limit) n (opening_state u input turns r) ≡ Some t → final t.task ≡ Some f → core_outcome turns t ≢ Some RanStuck
       left-first-told n t f run over = let l = alone-listed u limit n (opening_state u input turns r) t run in reaches-told l.0 t f l.1 over
+
+      -- nor is the meaning stuck, where some complete list ends as it says
+      pub meaning-unstuck : SomeEndsSo u limit input turns → outcome u input turns limit ≢ RanStuck
+      meaning-unstuck some e =
+          let x = some r checked opens in
+          let g = ended u limit input turns x.end (outcome u input turns limit) x.told in
+          reaches-told x.events x.end g.0 x.run g.1 (x.told ∙ ap (λ z. Some z) e)
