@@ -12,3 +12,4 @@ pub mod Commute
 pub mod SteadyCodes
 pub mod LeftRuns
 pub mod LivelyRuns
+pub mod StuckMeanings
