@@ -3,3 +3,4 @@ pub mod CalledCodes
 pub mod Results
 pub mod Stops
 pub mod Pars
+pub mod Codes

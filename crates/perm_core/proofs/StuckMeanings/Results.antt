@@ -38,7 +38,7 @@ full-by ByNothing = tt
 full-by ByGive = tt
 full-by ByReturn = tt
 
-spend-by : (k : Ending) (t : ℕ) (l : Own) (h : Heap) (go : Moment → Result) → ((m : Moment) → EndsBy k (go m)) → EndsBy k (spend (record { turns = t; own = l; heap = h }) go)
+pub spend-by : (k : Ending) (t : ℕ) (l : Own) (h : Heap) (go : Moment → Result) → ((m : Moment) → EndsBy k (go m)) → EndsBy k (spend (record { turns = t; own = l; heap = h }) go)
 spend-by k zero l h go f = fails-by k NoTurns 0 l.printed h
 spend-by k (suc t) l h go f = f (record { turns = t; own = l; heap = h })
 
@@ -50,7 +50,7 @@ then-by k (Fails e t p h) go f = fails-by k e t p h
 then-by k Full go f = full-by k
 then-by k Stuck go f = stuck-by k
 
-test-by : (k : Ending) (e : Eval Held) (at : Span) (m : Moment) (f g : Moment → Result) → EndsBy k (f m) → EndsBy k (g m) → EndsBy k (on_test e at m f g)
+pub test-by : (k : Ending) (e : Eval Held) (at : Span) (m : Moment) (f g : Moment → Result) → EndsBy k (f m) → EndsBy k (g m) → EndsBy k (on_test e at m f g)
 test-by k (Gives (Some (Truth true))) at m f g x y = x
 test-by k (Gives (Some (Truth false))) at m f g x y = y
 test-by k (Gives _) at m f g x y = stuck-by k

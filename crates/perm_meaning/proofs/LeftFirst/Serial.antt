@@ -41,7 +41,7 @@ module _ (u : UnitCode) (fits : ℕ → Bool) (t : ℕ) (again : Code → Moment
       (less x.code (record { turns = m.turns; own = record l { vars = x.first; routine = x.routine; depth = suc l.depth }; heap = h }) (OpenCall x.tie x.into x.y l.vars None l.routine rest ∷ st) lt))
 
   -- the turn of a simple statement
-  effect_to : (c : Code) (at : Span) (rest : Code) (st : List Frame) (m : Moment) (e : Effect Held Name Mark) → m.turns < t
+  pub effect_to : (c : Code) (at : Span) (rest : Code) (st : List Frame) (m : Moment) (e : Effect Held Name Mark) → m.turns < t
       → TurnTo u fits c rest st m (turn_of tagged Copies at rest st e) (doing u fits again at e m)
   effect_to c at rest st m Sticks lt = tt
   effect_to c at rest st m (Does o told) lt = go (find fits o m.heap) (λ h v. act_follows c at rest st m h (told v) lt)
@@ -53,7 +53,7 @@ module _ (u : UnitCode) (fits : ℕ → Bool) (t : ℕ) (again : Code → Moment
       go Missing f = refl
 
   -- the machine follows what code does
-  follows : (c : Code) (m : Moment) (st : List Frame) → m.turns ≤ t → Follows u fits End st m.turns (going u c st m) (does u fits again c m)
+  pub follows : (c : Code) (m : Moment) (st : List Frame) → m.turns ≤ t → Follows u fits End st m.turns (going u c st m) (does u fits again c m)
   follows End m st le = (le_refl m.turns, stay (named Copies u) (memory u) fits _)
   follows (Give at w x) m st le =
       spending u fits (Give at w x) End st (λ n l. refl) m.turns m.own m.heap (λ z. meaning.on_value (look_up tagged z.own.vars w) at z (λ v. Handed x v (set_vars z (clear tagged z.own.vars w))))
