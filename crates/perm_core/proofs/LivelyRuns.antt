@@ -1,10 +1,10 @@
 -- Where each event keeps the picture, the core goes on left first until it has ended.
-use Rattle.std.proofs.Common.{◌≡◌, ℕ, zero, suc, List, Option, Some, None, refl, sym, ap, ◌∙◌, subst}
+use Rattle.std.proofs.Common.{◌≡◌, ◌≢◌, ℕ, zero, suc, List, Option, Some, None, refl, sym, ap, ◌∙◌, subst}
 use Rattle.std.specs.Prelude.{ℤ}
 use Rattle.perm_tree.specs.Code.{Routine, UnitCode}
 use Rattle.perm_meaning.specs.Machine.{Leaf, Fork, Way, Here, GoL, GoR, final, over, stage, if_both_over}
 use Rattle.perm_meaning.specs.Effects.{Tick}
-use Rattle.perm_meaning.specs.NamedHeap.{Branch, Final, Held, Op, State, Task, memory}
+use Rattle.perm_meaning.specs.NamedHeap.{Branch, Final, Held, Op, State, Task, memory, find}
 use Rattle.perm_meaning.specs.Steps.{Answer, Found, Refused, Missing, within, alone, careful, granted, answered, asked, asked_with_care, leftmost, leftmost_of}
 use Rattle.perm_meaning.specs.Outcome.{opening_state}
 use Rattle.perm_meaning.proofs.Leads.{some_inj, none_some, then_some}
@@ -19,24 +19,31 @@ use Rattle.perm_core.proofs.Progress.NextEvents.{has_next}
 use Rattle.perm_core.proofs.OpeningPicture.{opens_with_picture}
 
 module _ (u : UnitCode) where
-  -- where each leaf that isn't over has an event, the leftmost node of a tree that hasn't ended has one
-  next-event : (t : Task) → ((w : Way) (b : Branch) → leaf_at w t ≡ Some b → over (stage b) ≡ None → (o : Op) × (look u w t ≡ Some o)) → final t ≡ None → (o : Op) × (look u (leftmost t) t ≡ Some o)
-  next-event (Leaf b) leaves e = leaves Here b refl e
-  next-event (Fork b p l r) leaves e = go (final l) (final r) refl refl (λ q. next-event l (λ w b h k. leaves (GoL w) b h k) q) (λ q. next-event r (λ w b h k. leaves (GoR w) b h k) q)
+  -- an event that asks what fulfils P
+  abbrev Asks : (Op → Type 0) → Way → Task → Type 0
+  Asks P w t = (o : Op) × (look u w t ≡ Some o) × P o
+
+  -- where each leaf that isn't over has such an event, the leftmost node of a tree that hasn't ended has one
+  next-event : (P : Op → Type 0) → P Tick → (t : Task) → ((w : Way) (b : Branch) → leaf_at w t ≡ Some b → over (stage b) ≡ None → Asks P w t) → final t ≡ None → Asks P (leftmost t) t
+  next-event P ticks (Leaf b) leaves e = leaves Here b refl e
+  next-event P ticks (Fork b p l r) leaves e = go (final l) (final r) refl refl (λ q. next-event P ticks l (λ w b h k. leaves (GoL w) b h k) q) (λ q. next-event P ticks r (λ w b h k. leaves (GoR w) b h k) q)
     where
-      go : (x y : Option Final) → final l ≡ x → final r ≡ y → (final l ≡ None → (o : Op) × (look u (leftmost l) l ≡ Some o)) → (final r ≡ None → (o : Op) × (look u (leftmost r) r ≡ Some o))
-          → (o : Op) × (look u (leftmost_of x y (leftmost l) (leftmost r)) (Fork b p l r) ≡ Some o)
+      go : (x y : Option Final) → final l ≡ x → final r ≡ y → (final l ≡ None → Asks P (leftmost l) l) → (final r ≡ None → Asks P (leftmost r) r) → Asks P (leftmost_of x y (leftmost l) (leftmost r)) (Fork b p l r)
       go None y q z left right = left q
       go (Some f) None q z left right = right z
-      go (Some f) (Some g) q z left right = (Tick, ap (λ i. if_both_over i (final r) None (λ x y. Some Tick)) q ∙ ap (λ i. if_both_over (Some f) i None (λ x y. Some Tick)) z)
+      go (Some f) (Some g) q z left right = (Tick, ap (λ i. if_both_over i (final r) None (λ x y. Some Tick)) q ∙ ap (λ i. if_both_over (Some f) i None (λ x y. Some Tick)) z, ticks)
 
   module _ (limit : ℕ) where
-    -- an event asks something
-    looked : (s t : State) (w : Way) → step u limit s w ≡ Some t → (o : Op) × (look u w s.task ≡ Some o)
+    -- what is asked is there
+    abbrev IsAnswered : State → Op → Type 0
+    IsAnswered s o = find (within limit) o s.heap ≢ Missing
+
+    -- an event asks something that is there
+    looked : (s t : State) (w : Way) → step u limit s w ≡ Some t → Asks (IsAnswered s) w s.task
     looked s t w e = go (look u w s.task) refl
       where
-        go : (o : Option Op) → look u w s.task ≡ o → (o : Op) × (look u w s.task ≡ Some o)
-        go (Some o) q = (o, q)
+        go : (o : Option Op) → look u w s.task ≡ o → Asks (IsAnswered s) w s.task
+        go (Some o) q = (o, q, λ m. none_some (sym (ap (λ z. asked (core u) (memory u) (within limit) s w z) q ∙ ap (λ a. answered (core u) (memory u) (within limit) s w o a) m) ∙ e))
         go None q = none_some (sym (ap (λ z. asked (core u) (memory u) (within limit) s w z) q) ∙ e)
 
     -- an event that is no refused allocation is an event
@@ -53,20 +60,20 @@ module _ (u : UnitCode) where
         asks (Some o) e = answers o ((memory u).find (within limit) o s.heap) e
 
     -- a state with a picture has ended, or has an event next
-    pub picture-lively : (labels : Labels) (s : State) → IsChecked u → IsPicture u labels s → IsLively u s
+    pub picture-lively : (labels : Labels) (s : State) → IsChecked u → IsPicture u labels s → IsLively u (within limit) s
     picture-lively labels s is picture = go (final s.task) refl
       where
         next : AllHaveNext u limit s
         next = has_next u limit labels s is picture
 
-        go : (f : Option Final) → final s.task ≡ f → IsLively u s
+        go : (f : Option Final) → final s.task ≡ f → IsLively u (within limit) s
         go (Some f) q = has_ended q
-        go None q = has_event (next-event s.task (λ w b h k. let n = next w b h k in looked s n.0 w n.1) q).1
+        go None q = let x = next-event (IsAnswered s) (λ m. let z : ⊥ = cc m in z) s.task (λ w b h k. let n = next w b h k in looked s n.0 w n.1) q in has_event x.1 x.2
 
     module _ (keeps : KeepsPicture u limit) (is : IsChecked u) where
       -- so it is after each number of events, left first
-      stays-lively : (k : ℕ) (labels : Labels) (s t : State) → IsPicture u labels s → alone (core u) (memory u) (within limit) k s ≡ Some t → IsLively u t
-      stays-lively zero labels s t picture e = subst (λ z. IsLively u z) (some_inj e) (picture-lively labels s is picture)
+      stays-lively : (k : ℕ) (labels : Labels) (s t : State) → IsPicture u labels s → alone (core u) (memory u) (within limit) k s ≡ Some t → IsLively u (within limit) t
+      stays-lively zero labels s t picture e = subst (λ z. IsLively u (within limit) z) (some_inj e) (picture-lively labels s is picture)
       stays-lively (suc k) labels s t picture e =
           let x = then_some (careful (core u) (memory u) (within limit) s (leftmost s.task)) (alone (core u) (memory u) (within limit) k) t e in
           stays-lively k (next_picture u limit labels s (leftmost s.task)) x.0 t (keeps labels s x.0 (leftmost s.task) is picture (careful-steps s x.0 (leftmost s.task) x.1)) x.2

@@ -21,17 +21,17 @@ passes a b h = grind (arith, nat_tests)
 
 module _ (u : UnitCode) (limit : ℕ) (input : List ℤ) (turns : ℕ) where
   -- what the body of `Run` does
-  abbrev body_result : Routine → Result
+  abbrev pub body_result : Routine → Result
   body_result r = mean u (within limit) turns r.code (opening u input turns r)
 
   -- the opening follows the meaning of the body of `Run`
-  opening_follows : (r : Routine) → Follows u (within limit) End [] turns (opening_state u input turns r) (body_result r)
+  pub opening_follows : (r : Routine) → Follows u (within limit) End [] turns (opening_state u input turns r) (body_result r)
   opening_follows r =
       subst (λ (z : Branch). Follows u (within limit) End [] turns (record { task = Leaf z; heap = opening_heap u input }) (body_result r))
       (at_empty u r.code (opening u input turns r)) (mean_follows u (within limit) turns r.code (opening u input turns r) [] (le_refl turns))
 
   -- what a run comes to, whose opening the heap holds
-  outcome_is : (r : Routine) → slice_get u.routines u.run ≡ Some r → opening_need u input ≤ limit → outcome u input turns limit ≡ reported_result turns (body_result r)
+  pub outcome_is : (r : Routine) → slice_get u.routines u.run ≡ Some r → opening_need u input ≤ limit → outcome u input turns limit ≡ reported_result turns (body_result r)
   outcome_is r e le =
       ap (λ b. if b then outcome_from u input turns limit (slice_get u.routines u.run) else RanFull) (passes (opening_need u input) limit le)
       ∙ ap (λ o. outcome_from u input turns limit o) e

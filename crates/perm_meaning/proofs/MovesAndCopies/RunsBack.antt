@@ -18,21 +18,21 @@ use Rattle.perm_meaning.proofs.MovesAndCopies.LeftFirst.{leftmost-alike}
 use Rattle.perm_meaning.proofs.MovesAndCopies.Runs.{opening-fewer, ends-as-outcome}
 
 -- the machine that moves has ended, or has an event next whose field is there
-pub data IsLively (u : UnitCode) (s : State) : Type 0 where
-  has_ended : {f : Final} → final s.task ≡ Some f → IsLively u s
-  has_event : {o : Op} → look (named Moves u) (leftmost s.task) s.task ≡ Some o → IsLively u s
+pub data IsLively (u : UnitCode) (fits : ℕ → Bool) (s : State) : Type 0 where
+  has_ended : {f : Final} → final s.task ≡ Some f → IsLively u fits s
+  has_event : {o : Op} → look (named Moves u) (leftmost s.task) s.task ≡ Some o → find fits o s.heap ≢ Missing → IsLively u fits s
 
 -- so it is after each number of events, left first
 abbrev pub StaysLively : UnitCode → (ℕ → Bool) → State → Type 0
-StaysLively u fits s = (k : ℕ) (t : State) → alone (named Moves u) (memory u) fits k s ≡ Some t → IsLively u t
+StaysLively u fits s = (k : ℕ) (t : State) → alone (named Moves u) (memory u) fits k s ≡ Some t → IsLively u fits t
 
 module _ (u : UnitCode) (steady : IsSteady u) where
   module _ (fits : ℕ → Bool) {K : Vars} {vp : List Held} where
-    careful-back : (s s' t : State) → StateHoldsFewer K vp s s' → IsLively u s → careful (named Copies u) (memory u) fits s' (leftmost s'.task) ≡ Some t → (s1 : State) × (careful (named Moves u) (memory u) fits s (leftmost s.task) ≡ Some s1) × StateHoldsFewer K vp s1 t
+    careful-back : (s s' t : State) → StateHoldsFewer K vp s s' → IsLively u fits s → careful (named Copies u) (memory u) fits s' (leftmost s'.task) ≡ Some t → (s1 : State) × (careful (named Moves u) (memory u) fits s (leftmost s.task) ≡ Some s1) × StateHoldsFewer K vp s1 t
     careful-back s s' t h (has_ended {f = f} q) e =
         let g = final-fewer K vp h.0 f q in
         none_some (sym (ap (λ z. asked_with_care (named Copies u) (memory u) fits s' (leftmost s'.task) z) (ended_no_event (named Copies u) (leftmost s'.task) s'.task g.0 g.1)) ∙ e)
-    careful-back s s' t h (has_event {o = o} q) e = answer (found-at s.heap) refl (sym same ∙ e)
+    careful-back s s' t h (has_event {o = o} q there) e = answer (found-at s.heap) refl (sym same ∙ e)
       where
         w : Way
         w = leftmost s.task
@@ -78,10 +78,10 @@ module _ (u : UnitCode) (steady : IsSteady u) where
         let a = alone-back (within limit) c.0 start start c.1 (opening-fewer u steady limit input turns r is) lively c.3 in
         last c.0 a.0 a.1 (lively c.0 a.0 a.1) c.1 c.2 a.2 c.4
       where
-        last : (n : ℕ) (s : State) → alone (named Moves u) (memory u) (within limit) n start ≡ Some s → IsLively u s → (t : State) (g : Final) → StateHoldsFewer none (opening_own u input r).vars s t → final t.task ≡ Some g
+        last : (n : ℕ) (s : State) → alone (named Moves u) (memory u) (within limit) n start ≡ Some s → IsLively u (within limit) s → (t : State) (g : Final) → StateHoldsFewer none (opening_own u input r).vars s t → final t.task ≡ Some g
             → (n : ℕ) × (s : State) × (f : Final) × (alone (named Moves u) (memory u) (within limit) n start ≡ Some s) × (final s.task ≡ Some f) × (reported turns f s.heap ≡ outcome u input turns limit)
         last n s e (has_ended {f = f} q) t g h p = (n, s, f, e, q, ends-as-outcome u steady limit input turns r is room unstuck n s f e q)
-        last n s e (has_event {o = o} q) t g h p = none_some (sym (unended (named Copies u) (leftmost s.task) t.task o (event-fewer u steady h.0 (leftmost s.task) o q).0) ∙ p)
+        last n s e (has_event {o = o} q there) t g h p = none_some (sym (unended (named Copies u) (leftmost s.task) t.task o (event-fewer u steady h.0 (leftmost s.task) o q).0) ∙ p)
 
     -- and where the heap doesn't hold the run, to the allocation that is refused
     pub fills-as-outcome : StaysLively u (within limit) start → outcome u input turns limit ≡ RanFull
@@ -91,13 +91,13 @@ module _ (u : UnitCode) (steady : IsSteady u) where
         let a = alone-back (within limit) c.0 start start c.1 (opening-fewer u steady limit input turns r is) lively c.3 in
         last c.0 a.0 a.1 (lively c.0 a.0 a.1) c.1 c.2 a.2 c.4 c.5
       where
-        last : (n : ℕ) (s : State) → alone (named Moves u) (memory u) (within limit) n start ≡ Some s → IsLively u s → (t : State) (p : Op) → StateHoldsFewer none (opening_own u input r).vars s t
+        last : (n : ℕ) (s : State) → alone (named Moves u) (memory u) (within limit) n start ≡ Some s → IsLively u (within limit) s → (t : State) (p : Op) → StateHoldsFewer none (opening_own u input r).vars s t
             → look (named Copies u) (leftmost t.task) t.task ≡ Some p → find (within limit) p t.heap ≡ Refused
             → (n : ℕ) × (s : State) × (o : Op) × (alone (named Moves u) (memory u) (within limit) n start ≡ Some s) × (look (named Moves u) (leftmost s.task) s.task ≡ Some o) × (find (within limit) o s.heap ≡ Refused)
         last n s e (has_ended {f = f} q) t p h l z =
             let g = final-fewer none (opening_own u input r).vars h.0 f q in
             none_some (sym (ended_no_event (named Copies u) (leftmost t.task) t.task g.0 g.1) ∙ l)
-        last n s e (has_event {o = o} q) t p h l z =
+        last n s e (has_event {o = o} q there) t p h l z =
             let ev = event-fewer u steady h.0 (leftmost s.task) o q in
             let same = some_inj (sym l ∙ ap (λ w. look (named Copies u) w t.task) (sym (leftmost-alike h.0)) ∙ ev.0) in
             (n, s, o, e, q, ap (λ i. find (within limit) i s.heap) (sym same) ∙ ap (λ i. find (within limit) p i) (sym h.1) ∙ z)
