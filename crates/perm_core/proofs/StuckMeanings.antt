@@ -4,3 +4,4 @@ pub mod Results
 pub mod Stops
 pub mod Pars
 pub mod Codes
+pub mod StuckRuns
