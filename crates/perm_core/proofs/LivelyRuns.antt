@@ -1,4 +1,4 @@
--- Where each event keeps the picture, the core goes on left first until it has ended.
+-- Where each event keeps the picture, the core goes on left first until it has ended, as the meaning says.
 use Rattle.std.proofs.Common.{◌≡◌, ◌≢◌, ℕ, zero, suc, List, Option, Some, None, refl, sym, ap, ◌∙◌, subst}
 use Rattle.std.specs.Prelude.{ℤ}
 use Rattle.perm_tree.specs.Code.{Routine, UnitCode}
@@ -6,15 +6,16 @@ use Rattle.perm_meaning.specs.Machine.{Leaf, Fork, Way, Here, GoL, GoR, final, o
 use Rattle.perm_meaning.specs.Effects.{Tick}
 use Rattle.perm_meaning.specs.NamedHeap.{Branch, Final, Held, Op, State, Task, memory, find}
 use Rattle.perm_meaning.specs.Steps.{Answer, Found, Refused, Missing, within, alone, careful, granted, answered, asked, asked_with_care, leftmost, leftmost_of}
-use Rattle.perm_meaning.specs.Outcome.{opening_state}
+use Rattle.perm_meaning.specs.Outcome.{RanFull, outcome, opening_state}
 use Rattle.perm_meaning.proofs.Leads.{some_inj, none_some, then_some}
 use Rattle.perm_meaning.proofs.MovesAndCopies.RunsBack.{IsLively, has_ended, has_event, StaysLively}
-use Rattle.perm_core.specs.Core.{core, look, step}
+use Rattle.perm_core.specs.Core.{core, look, step, core_outcome}
 use Rattle.perm_core.specs.Claims.{IsChecked, Opens, leaf_at, AllHaveNext}
 use Rattle.perm_core.specs.Regions.{Labels}
 use Rattle.perm_core.specs.Picture.{IsPicture}
 use Rattle.perm_core.specs.NextPicture.{first_picture, next_picture}
 use Rattle.perm_core.specs.Claims.{KeepsPicture}
+use Rattle.perm_core.proofs.LeftRuns.{left-first-comes, left-first-fills}
 use Rattle.perm_core.proofs.Progress.NextEvents.{has_next}
 use Rattle.perm_core.proofs.OpeningPicture.{opens_with_picture}
 
@@ -81,3 +82,13 @@ module _ (u : UnitCode) where
       -- the core of a checked unit is never stuck, left first
       pub left-first-lively : (input : List ℤ) (turns : ℕ) (r : Routine) → Opens u limit input r → StaysLively u (within limit) (opening_state u input turns r)
       left-first-lively input turns r o k t e = stays-lively k first_picture (opening_state u input turns r) t (opens_with_picture u limit input turns r is o) e
+
+      -- it comes to the end that the meaning says
+      pub picture-comes : (input : List ℤ) (turns : ℕ) (r : Routine) → Opens u limit input r → outcome u input turns limit ≢ RanFull
+          → (n : ℕ) × (s : State) × (alone (core u) (memory u) (within limit) n (opening_state u input turns r) ≡ Some s) × (core_outcome turns s ≡ Some (outcome u input turns limit))
+      picture-comes input turns r o full = left-first-comes u limit input turns r is o (left-first-lively input turns r o) full
+
+      -- or to the refused allocation, where the heap doesn't hold the run
+      pub picture-fills : (input : List ℤ) (turns : ℕ) (r : Routine) → Opens u limit input r → outcome u input turns limit ≡ RanFull
+          → (n : ℕ) × (s : State) × (p : Op) × (alone (core u) (memory u) (within limit) n (opening_state u input turns r) ≡ Some s) × (look u (leftmost s.task) s.task ≡ Some p) × (find (within limit) p s.heap ≡ Refused)
+      picture-fills input turns r o full = left-first-fills u limit input turns r is o (left-first-lively input turns r o) full
