@@ -14,7 +14,7 @@ use Rattle.perm_meaning.specs.Outcome.{Outcome, Ran, RanFull, RanStuck, outcome,
 use Rattle.perm_meaning.specs.Steady.{IsSteady}
 use Rattle.perm_meaning.specs.HoldsFewer.{StateHoldsFewer, FinalHoldsFewer}
 use Rattle.perm_meaning.proofs.Leads.{some_inj, none_some, unended}
-use Rattle.perm_meaning.proofs.Determined.{determined, one_end, over_at_rest}
+use Rattle.perm_meaning.proofs.LeftFirst.Determined.{determined, one_end, over_at_rest}
 use Rattle.perm_meaning.proofs.MovesAndCopies.Ends.{final-fewer}
 use Rattle.perm_meaning.proofs.MovesAndCopies.Events.{event-fewer}
 use Rattle.perm_meaning.proofs.MovesAndCopies.LeftFirst.{told-alike, leftmost-alike, alone-fewer}

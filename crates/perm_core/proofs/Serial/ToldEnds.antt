@@ -14,9 +14,9 @@ use Rattle.perm_core.specs.Picture.{stands_in}
 use Rattle.perm_core.specs.NextPicture.{first_picture}
 use Rattle.perm_core.specs.Claims.{IsChecked, Opens}
 use Rattle.perm_core.proofs.OpeningPicture.{opens_with_picture}
-use Rattle.perm_core.proofs.KeepsPicture.NodePremises.{root-node}
-use Rattle.perm_core.proofs.KeepsPicture.Order.{event-of}
-use Rattle.perm_core.proofs.KeepsPicture.Sides.{root-keeps}
+use Rattle.perm_core.proofs.KeepsPicture.Trees.NodePremises.{root-node}
+use Rattle.perm_core.proofs.KeepsPicture.Trees.TreeEvents.{is-step, step-event}
+use Rattle.perm_core.proofs.KeepsPicture.Order.Sides.{root-keeps}
 use Rattle.perm_core.proofs.Serial.Needs.{runs-keep}
 use Rattle.perm_core.proofs.Serial.FreeRuns.{KeepsPictures, HasPicture, pictured-next}
 use Rattle.perm_core.proofs.Serial.LeftFirst.{alone-listed}
@@ -70,11 +70,12 @@ module _ (u : UnitCode) where
   module _ (checked : IsChecked u) (keeps : KeepsPictures u) (limit : ℕ) where
     runs-next : (s t : State) (w : Way) → RunsRun s → step u limit s w ≡ Some t → RunsRun t
     runs-next s t w is e =
-        let x = event-of u limit s t w e in
+        let x = is-step u limit s t w e in
+        let event = step-event u limit s t w x in
         record {
           picture = pictured-next u checked keeps limit s t w is.picture e;
-          stands = (root-keeps u u.run x.op x.told w s.task t.task is.stands x.event).stands;
-          number = keeps-number u checked is.picture.0 s.heap is.picture.1.orderly.goes.0 x.op x.told w s.task t.task (root-node u is.picture.0 s is.picture.1) is.stands is.number x.event;
+          stands = (root-keeps u u.run x.op x.told w s.task t.task is.stands event).stands;
+          number = keeps-number u checked is.picture.0 s.heap is.picture.1.orderly.goes.0 x.op x.told w s.task t.task (root-node u is.picture.0 s is.picture.1) is.stands is.number event;
         }
 
     -- an ended run from the opening is told

@@ -17,10 +17,10 @@ use Rattle.perm_meaning.specs.NamedHeap.{Heap, Held, Own, marks, find, after}
 use Rattle.perm_meaning.specs.Steps.{Answer, Found, Refused, Missing}
 use Rattle.perm_meaning.specs.Meaning as meaning
 use Rattle.perm_meaning.specs.Meaning.{Moment, Result, Well, Gave, Handed, Fails, Full, Stuck, fail, left_of, right_of, set_vars, then_do, close, recovered, par_of, perform, doing, does, mean}
-use Rattle.perm_meaning.proofs.Reached.{Frame, going, Follows, close_follows, recovered_follows}
-use Rattle.perm_meaning.proofs.OneTurn.{then_task, spending, on_follows, test_to, depth_to}
-use Rattle.perm_meaning.proofs.AtPar.{par_to}
-use Rattle.perm_meaning.proofs.Serial.{effect_to, follows, mean_follows}
+use Rattle.perm_meaning.proofs.LeftFirst.Reached.{Frame, going, Follows, close_follows, recovered_follows}
+use Rattle.perm_meaning.proofs.LeftFirst.OneTurn.{then_task, spending, on_follows, test_to, depth_to}
+use Rattle.perm_meaning.proofs.LeftFirst.AtPar.{par_to}
+use Rattle.perm_meaning.proofs.LeftFirst.Serial.{effect_to, follows, mean_follows}
 use Rattle.perm_core.specs.Endings.{Ending, ByNothing, ByGive, ByReturn, ends}
 use Rattle.perm_core.proofs.StuckMeanings.CalledCodes.{AllReturn, CallsRightly, AllCallRightly, effect-calls}
 use Rattle.perm_core.proofs.StuckMeanings.Results.{EndsBy, spend-by, test-by, fails-by, does-by, mean-by}

@@ -14,8 +14,8 @@ use Rattle.perm_meaning.specs.NamedHeap.{Heap, Held, Op, Branch, Task, Final, St
 use Rattle.perm_meaning.specs.Meaning as meaning
 use Rattle.perm_meaning.specs.Meaning.{Moment, Result, Well, Gave, Handed, Fails, Full, Stuck, left_of, right_of, on_final, after_join, par_of}
 use Rattle.perm_meaning.proofs.Leads.{in_left, in_right, lead_left, lead_right}
-use Rattle.perm_meaning.proofs.Reached.{Frame, at_code, going, Follows}
-use Rattle.perm_meaning.proofs.OneTurn.{plain, at_empty}
+use Rattle.perm_meaning.proofs.LeftFirst.Reached.{Frame, at_code, going, Follows}
+use Rattle.perm_meaning.proofs.LeftFirst.OneTurn.{plain, at_empty}
 use Rattle.perm_core.specs.Endings.{ByNothing}
 use Rattle.perm_core.proofs.StuckMeanings.Results.{EndsBy}
 use Rattle.perm_core.proofs.StuckMeanings.Stops.{Stalls, TurnStalls, stops-along, left-stops, right-stops}

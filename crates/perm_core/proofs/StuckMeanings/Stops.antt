@@ -13,8 +13,8 @@ use Rattle.perm_meaning.specs.Steps.{Answer, Found, Refused, Missing, granted, a
 use Rattle.perm_meaning.specs.Meaning as meaning
 use Rattle.perm_meaning.specs.Meaning.{Moment, Result, Well, Gave, Handed, Fails, Full, Stuck, spend, then_do}
 use Rattle.perm_meaning.proofs.Leads.{some_inj, none_some, stay, one, lead, in_left, in_right, lead_left, lead_right}
-use Rattle.perm_meaning.proofs.Reached.{Frame, going, settles, Reach, Follows}
-use Rattle.perm_meaning.proofs.OneTurn.{plain, IsDue, before, then_task}
+use Rattle.perm_meaning.proofs.LeftFirst.Reached.{Frame, going, settles, Reach, Follows}
+use Rattle.perm_meaning.proofs.LeftFirst.OneTurn.{plain, IsDue, before, then_task}
 use Rattle.perm_core.specs.Endings.{ByNothing}
 use Rattle.perm_core.proofs.StuckMeanings.Results.{EndsBy}
 

@@ -8,9 +8,9 @@ use Rattle.perm_meaning.specs.NamedHeap.{Branch, Final, State, named, memory}
 use Rattle.perm_meaning.specs.Steps.{within, alone}
 use Rattle.perm_meaning.specs.Meaning.{Result, Well, Gave, Handed, Fails, Full, Stuck}
 use Rattle.perm_meaning.specs.Outcome.{RanStuck, outcome, reported, reported_result, opening, opening_heap, opening_need, opening_state}
-use Rattle.perm_meaning.proofs.OneTurn.{at_empty}
-use Rattle.perm_meaning.proofs.Reached.{Follows}
-use Rattle.perm_meaning.proofs.WholeRun.{body_result, opening_follows, outcome_is}
+use Rattle.perm_meaning.proofs.LeftFirst.OneTurn.{at_empty}
+use Rattle.perm_meaning.proofs.LeftFirst.Reached.{Follows}
+use Rattle.perm_meaning.proofs.LeftFirst.WholeRun.{body_result, opening_follows, outcome_is}
 use Rattle.perm_core.specs.Endings.{ByReturn}
 use Rattle.perm_core.proofs.StuckMeanings.CalledCodes.{AllReturn}
 use Rattle.perm_core.proofs.StuckMeanings.Results.{EndsBy, mean-by}
