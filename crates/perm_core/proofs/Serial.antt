@@ -11,3 +11,4 @@ pub mod LeftFirst
 pub mod NumberReturned
 pub mod ToldEnds
 pub mod LeftFirstStops
+pub mod EveryRun
