@@ -12,3 +12,4 @@ pub mod NumberReturned
 pub mod ToldEnds
 pub mod LeftFirstStops
 pub mod EveryRun
+pub mod WordsEnd

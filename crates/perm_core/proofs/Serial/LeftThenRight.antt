@@ -28,7 +28,7 @@ given-not-full turns (Some (Number n)) t p h e = absurd (cc)
 given-not-full turns (Some _) t p h e = absurd (cc)
 
 -- only want of room is told as a full heap
-reported-so : (turns : ℕ) (f : Final) (h : Heap) → reported turns f h ≡ RanFull → EndsFull f
+pub reported-so : (turns : ℕ) (f : Final) (h : Heap) → reported turns f h ≡ RanFull → EndsFull f
 reported-so turns (Fine vs t p) h e = absurd (cc)
 reported-so turns (GaveBack v t p) h e = absurd (given-not-full turns v t p h e)
 reported-so turns (Failed (Trapped k at) t p) h e = absurd (cc)

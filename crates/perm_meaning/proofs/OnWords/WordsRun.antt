@@ -91,7 +91,7 @@ ran_inj {x = x} {y = y} e = ap (λ o. take o x) e
     take RanStuck d = d
 
 -- what is told of an end on names is told of the end on words that shows it
-told_alike : (b : Bases) (turns : ℕ) (f : Final) (g : machines.Final ℕ) (h : Heap) (c : Cells) (r : Report) → FinalR (IsWordOf b) f g → h.given ≡ c.given → reported turns f h ≡ Ran r → IsTold turns r g c
+pub told_alike : (b : Bases) (turns : ℕ) (f : Final) (g : machines.Final ℕ) (h : Heap) (c : Cells) (r : Report) → FinalR (IsWordOf b) f g → h.given ≡ c.given → reported turns f h ≡ Ran r → IsTold turns r g c
 told_alike b turns (GaveBack (Some (Number n)) left out) (GaveBack w left' out') h c r k e q =
     subst (λ z. IsTold turns z (GaveBack w left' out') c) (ran_inj q) (record { ending = ap (λ z. Some (Done z)) (sym k.0.0); printed = sym k.2; spent = ap (λ z. turns - z) (sym k.1); need = sym e })
 told_alike b turns (GaveBack None left out) g h c r k e q = absurd (cc)
@@ -117,7 +117,7 @@ abbrev heap_of : Report → Heap
 heap_of r = record { objects = r.objects; given = r.need }
 
 -- the objects and the need that are told are those of the heap
-told_heap : (turns : ℕ) (f : Final) (h : Heap) (r : Report) → reported turns f h ≡ Ran r → h ≡ record { objects = r.objects; given = r.need }
+pub told_heap : (turns : ℕ) (f : Final) (h : Heap) (r : Report) → reported turns f h ≡ Ran r → h ≡ record { objects = r.objects; given = r.need }
 told_heap turns (GaveBack (Some (Number n)) left out) h r q = ap (λ (z : Report). heap_of z) (ran_inj q)
 told_heap turns (GaveBack None left out) h r q = absurd (cc)
 told_heap turns (GaveBack (Some (Truth t)) left out) h r q = absurd (cc)
