@@ -1,5 +1,5 @@
 -- The rules for a method, a statement or a block that is named by its place in a unit.
-use Rattle.std.specs.Prelude.{ℕ, Bool, true, ◌&&◌, nat_le, List, [], flat_map, get_or, Option, Some, None, slice_get, cond, Result, Ok, Err}
+use Rattle.std.specs.Prelude.{ℕ, Bool, true, ◌&&◌, nat_le, List, [], flat_map, get_or, length, Option, Some, None, slice_get, cond, Result, Ok, Err}
 use Rattle.perm_tree.specs.declared.ast.Span.{Span}
 use Rattle.perm_tree.specs.declared.ast.Stmt.{Stmt}
 use Rattle.perm_tree.specs.declared.ast.StmtKind.{StmtKind}
@@ -21,7 +21,7 @@ use Rattle.perm_rules.specs.declared.ParMode.{ParMode}
 use Rattle.perm_rules.specs.Parts.{Context}
 use Rattle.perm_rules.specs.Pars.{uses, sets, par_head, mode_of}
 use Rattle.perm_rules.specs.Refusals.{refusal}
-use Rattle.perm_rules.specs.Effects.{Effect, effect, changed, block_effect}
+use Rattle.perm_rules.specs.Effects.{Effect, effect, changed, block_effect, known_effect}
 use Rattle.perm_rules.specs.Goes.{Goes, context, hiding, HasDerivation}
 use Rattle.perm_rules.specs.FirstRefused.{first_refused, method_refusal}
 
@@ -87,9 +87,13 @@ block_code_at u m b = block_code (setting_at u m) b.stmts End
 abbrev pub own_at : Tables → ℕ → Block → List ℕ
 own_at u m b = own_vars (setting_at u m) b.stmts
 
--- what a block loses and makes, its own variables lost at its end
+-- what a block does to the live set, its own variables lost at its end
+abbrev pub whole_effect_of : Tables → ℕ → Block → Effect
+whole_effect_of u m b = block_effect (own_at u m b) (block_code_at u m b)
+
+-- what it loses and makes of the variables of the method
 abbrev pub effect_of : Tables → ℕ → Block → Effect
-effect_of u m b = block_effect (own_at u m b) (block_code_at u m b)
+effect_of u m b = known_effect (length (vars_at u m)) (whole_effect_of u m b)
 
 -- what the blocks of a method are checked by, where nothing is hidden; the sets of variables and the par tests don't look at what is
 abbrev pub plain_context : Tables → ℕ → Context

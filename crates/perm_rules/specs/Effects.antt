@@ -1,7 +1,7 @@
 -- What code takes out of the live set, and what it puts in.
 use Rattle.std.specs.Prelude.{ℕ, List}
 use Rattle.perm_tree.specs.Code.{Instruction, Declare, Code, End, Give, Return, Do, If, While, Par, Recover}
-use Rattle.perm_tree.specs.Mentions.{argument_consumes, consumes, assigns}
+use Rattle.perm_tree.specs.Mentions.{argument_consumes, consumes, assigns, known}
 use Rattle.perm_tree.specs.Vars.{Vars, none, just, those, plus, minus, meet}
 
 -- the variables that are lost, and those that are made live; from a set that code goes from it goes to that without the lost, with the made
@@ -56,3 +56,7 @@ effect (Recover at x own hides body rest) = then (closed own (effect body)) (eff
 -- the effect of a block, which declares own itself
 abbrev pub block_effect : List ℕ → Code → Effect
 block_effect own a = closed own (effect a)
+
+-- of a method with n variables an effect on the known ones
+abbrev pub known_effect : ℕ → Effect → Effect
+known_effect n e = record { lost = known n e.lost; made = known n e.made }

@@ -1,17 +1,18 @@
 -- What the laws of the typing rules claim.
-use Rattle.std.specs.Prelude.{◌≡◌, ◌↔◌, ℕ, false, ◌&&◌, None, Some, Ok, is_none, slice_get}
+use Rattle.std.specs.Prelude.{◌≡◌, ◌↔◌, ℕ, false, ◌&&◌, cond, length, None, Some, Ok, is_none, slice_get}
+use Rattle.perm_tree.specs.declared.ast.Block.{Block}
 use Rattle.perm_tree.specs.declared.ast.Stmt.{Stmt}
 use Rattle.perm_tree.specs.Code.{Code, Routine, UnitCode}
 use Rattle.perm_tree.specs.CodeOf.{code_of}
 use Rattle.perm_tree.specs.Resolves.{IsResolved}
 use Rattle.perm_tree.specs.UnitTables.{Tables}
-use Rattle.perm_tree.specs.Vars.{Vars, IsWithin}
+use Rattle.perm_tree.specs.Vars.{Vars, below, IsWithin}
 use Rattle.perm_rules.specs.Parts.{Context, type_of}
 use Rattle.perm_rules.specs.Effects.{effect, changed}
 use Rattle.perm_rules.specs.Goes.{Goes, IsAccepted, context}
 use Rattle.perm_rules.specs.Sharing.{AllSharePlainly}
 use Rattle.perm_rules.specs.FirstRefused.{first_refused, unit_refusal}
-use Rattle.perm_rules.specs.AtPlace.{StmtGoes, flow_of}
+use Rattle.perm_rules.specs.AtPlace.{vars_at, whole_effect_of, effect_of, StmtGoes, flow_of}
 
 -- a code that goes from a live set goes to that without what its effect loses, with what it makes
 abbrev pub GoesByEffect : Type 0
@@ -24,6 +25,10 @@ LosesOrMakes = (c : Context) (a : Code) (G H : Vars) → Goes c a G H → (x : �
 -- a code that goes from a live set goes from each larger one, to one that is no smaller
 abbrev pub GoesFromMore : Type 0
 GoesFromMore = (c : Context) (a : Code) (G H K : Vars) → IsWithin G K → Goes c a G H → (L : Vars) × Goes c a K L × IsWithin H L
+
+-- of the variables of a method each changes by the effect of a block as by the whole effect, and no other number changes
+abbrev pub ChangesKnown : Type 0
+ChangesKnown = (u : Tables) (m : ℕ) (b : Block) (G : Vars) (x : ℕ) → changed (effect_of u m b) G x ≡ cond (below (length (vars_at u m)) x) (changed (whole_effect_of u m b) G x) (G x)
 
 -- a code goes from a live set exactly where no part of it is refused
 abbrev pub GoesUnrefused : Type 0

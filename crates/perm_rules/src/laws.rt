@@ -1,12 +1,13 @@
 //! Laws of the typing rules. A law does nothing: its contract is the claim.
 
-ghost use Rattle.perm_rules.specs.Laws.{GoesByEffect, LosesOrMakes, GoesFromMore, GoesUnrefused, AcceptedUnrefused, FlowGoes, PlainlyShared, RefusedByKnown};
+ghost use Rattle.perm_rules.specs.Laws.{GoesByEffect, LosesOrMakes, GoesFromMore, ChangesKnown, GoesUnrefused, AcceptedUnrefused, FlowGoes, PlainlyShared, RefusedByKnown};
 
-/// What goes is told by effects, and a larger live set stays larger.
+/// What goes is told by effects, and a larger live set stays larger; the effect of a block is told by the variables of its method alone.
 pub fn effects()
     ensures by_effect { GoesByEffect }
     ensures clear { LosesOrMakes }
     ensures monotone { GoesFromMore }
+    ensures known { ChangesKnown }
 {}
 
 /// What goes is what isn't refused.

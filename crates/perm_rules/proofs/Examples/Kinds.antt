@@ -27,7 +27,7 @@ box =
     )
 
 -- `Run` has an isolated b, an immutable f and a writable w, and then these lines, of which the first is line 26
-abbrev with_lines : List Line → Source
+abbrev pub with_lines : List Line → Source
 with_lines ls =
     box
     ∷ class "Main" (

@@ -1,17 +1,20 @@
 -- Statements and blocks named by their places, by computation.
 use Rattle.std.specs.Prelude.{◌≡◌, ℕ, Bool, true, false, List, [], ◌∷◌, map, Option, Some, None, slice_get, refl, Result, Ok, Err}
+use Rattle.perm_tree.specs.declared.ast.Block.{Block}
 use Rattle.perm_tree.specs.declared.ast.Stmt.{Stmt}
 use Rattle.perm_tree.specs.declared.errors.TypeKind.{TypeKind}
 use Rattle.perm_tree.specs.declared.errors.TypeKind.TheVariants.{Gone, Hidden, ParShared, ParPermission}
 use Rattle.perm_tree.specs.declared.errors.TypeError.{TypeError}
 use Rattle.perm_tree.specs.UnitTables.{Tables}
 use Rattle.perm_tree.specs.Vars.{Vars, below}
+use Rattle.perm_tree.proofs.Builder.{truth, assign, consumed, if_only}
 use Rattle.perm_tree.proofs.Programs.{unit, p6}
 use Rattle.perm_tree.proofs.ParPrograms.{p4, p4_both, p11, p11_shared}
 use Rattle.perm_rules.specs.declared.ParMode.{ParMode}
 use Rattle.perm_rules.specs.declared.ParMode.TheVariants.{Symmetric, LeftAlone}
-use Rattle.perm_rules.specs.AtPlace.{flow_of, par_mode_of, uses_of, sets_of}
+use Rattle.perm_rules.specs.AtPlace.{flow_of, par_mode_of, uses_of, sets_of, effect_of, whole_effect_of}
 use Rattle.perm_rules.specs.InBody.{body_places}
+use Rattle.perm_rules.proofs.Examples.Kinds.{with_lines}
 
 -- the first six variables, each as whether it is in a set
 abbrev first_six : Vars → List Bool
@@ -75,3 +78,33 @@ bump-sets = refl
 -- the body of `Run`, where the two statements of the par stand before it
 bodies : map (body_places (unit p4)) (0 ∷ 1 ∷ 2 ∷ []) ≡ (0 ∷ 1 ∷ []) ∷ (2 ∷ 3 ∷ 4 ∷ 5 ∷ 8 ∷ 6 ∷ 7 ∷ 9 ∷ 10 ∷ []) ∷ [] ∷ []
 bodies = refl
+
+-- ---------- effects of blocks ----------
+-- `got = d.Bump();` makes got and loses nothing
+bump-made : first_six (effect_of (unit p4) 1 (record { stmts = 6 ∷ [] })).made ≡ false ∷ false ∷ false ∷ false ∷ true ∷ false ∷ []
+bump-made = refl
+
+bump-lost : first_six (effect_of (unit p4) 1 (record { stmts = 6 ∷ [] })).lost ≡ false ∷ false ∷ false ∷ false ∷ false ∷ false ∷ []
+bump-lost = refl
+
+-- `Run` has the five variables this, input, b, f and w, and in a block `f = consume none;` of a name that isn't known
+abbrev lost_name : Tables
+lost_name = unit (with_lines (if_only (truth true) (assign "f" (consumed "none") ∷ []) ∷ []))
+
+abbrev lost_block : Block
+lost_block = record { stmts = 4 ∷ [] }
+
+-- it makes f, and loses no variable
+unknown-made : first_six (effect_of lost_name 4 lost_block).made ≡ false ∷ false ∷ false ∷ true ∷ false ∷ false ∷ []
+unknown-made = refl
+
+unknown-lost : first_six (effect_of lost_name 4 lost_block).lost ≡ false ∷ false ∷ false ∷ false ∷ false ∷ false ∷ []
+unknown-lost = refl
+
+-- the whole effect loses the number past the last, which is no variable
+unknown-lost-whole : first_six (whole_effect_of lost_name 4 lost_block).lost ≡ false ∷ false ∷ false ∷ false ∷ false ∷ true ∷ []
+unknown-lost-whole = refl
+
+-- of a method that isn't there no variable is made
+no-method-made : first_six (effect_of lost_name 9 lost_block).made ≡ false ∷ false ∷ false ∷ false ∷ false ∷ false ∷ []
+no-method-made = refl
