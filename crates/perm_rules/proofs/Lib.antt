@@ -7,5 +7,6 @@ pub mod Agree
 pub mod Sequences
 pub mod Effects
 pub mod Refusals
+pub mod Hiding
 pub mod Pars
 mod Examples

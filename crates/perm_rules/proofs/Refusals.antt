@@ -102,8 +102,8 @@ flow-parts None H K h = (refl, cc)
 flow-parts (Some x) H K h = absurd (cc)
 
 pub flow-goes : FlowGoes
-flow-goes u m at s G H =
-    let c : Context = context_at u m s.span in
+flow-goes u m at G H =
+    let c : Context = context_at u m at in
     let a : Code = stmt_code_at u m at in (
       λ g. flow-passes (first_refused c a G) H (changed (effect a) G) ((goes-unrefused c a G).0 (H, g)) (goes-by-effect c a G H g),
       λ h.

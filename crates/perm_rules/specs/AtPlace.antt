@@ -1,6 +1,5 @@
 -- The rules for a method, a statement or a block that is named by its place in a unit.
-use Rattle.std.specs.Prelude.{ℕ, Bool, true, ◌&&◌, nat_le, List, [], flat_map, get_or, length, Option, Some, None, slice_get, cond, Result, Ok, Err}
-use Rattle.perm_tree.specs.declared.ast.Span.{Span}
+use Rattle.std.specs.Prelude.{ℕ, true, List, [], ◌∷◌, ◌++◌, get_or, length, Option, Some, None, slice_get, cond, Result, Ok, Err}
 use Rattle.perm_tree.specs.declared.ast.Stmt.{Stmt}
 use Rattle.perm_tree.specs.declared.ast.StmtKind.{StmtKind}
 use Rattle.perm_tree.specs.declared.ast.StmtKind.TheVariants.{Assign}
@@ -16,12 +15,13 @@ use Rattle.perm_tree.specs.declared.unit.VarInfo.{VarInfo}
 use Rattle.perm_tree.specs.Code.{Code, End, Routine}
 use Rattle.perm_tree.specs.CodeOf.{Setting, setting, code_of, stmt_code, block_code, own_vars, tied_before}
 use Rattle.perm_tree.specs.UnitTables.{Tables}
-use Rattle.perm_tree.specs.Vars.{Vars}
+use Rattle.perm_tree.specs.Vars.{Vars, those}
 use Rattle.perm_rules.specs.declared.ParMode.{ParMode}
 use Rattle.perm_rules.specs.Parts.{Context}
 use Rattle.perm_rules.specs.Pars.{uses, sets, par_head, mode_of}
 use Rattle.perm_rules.specs.Refusals.{refusal}
 use Rattle.perm_rules.specs.Effects.{Effect, effect, changed, block_effect, known_effect}
+use Rattle.perm_rules.specs.InBody.{all_within}
 use Rattle.perm_rules.specs.Goes.{Goes, context, hiding, HasDerivation}
 use Rattle.perm_rules.specs.FirstRefused.{first_refused, method_refusal}
 
@@ -56,26 +56,27 @@ abbrev pub refusal_at : Tables → ℕ → Option TypeError
 refusal_at u m = method_refusal (code_of u) (routine_at u m)
 
 -- ---------- what is hidden at a place ----------
--- a place stands behind the head of a recover block, and before its end
-abbrev pub is_round : Span → Span → Span → Bool
-is_round head whole at = nat_le head.end at.start && nat_le at.end whole.end
-
--- what a right side hides at a place: the tied variables declared before its recover block, if that stands round the place
-abbrev pub rhs_hides : List VarInfo → Span → Stmt → Rhs → List ℕ
-rhs_hides vars at s (Recover b w give) = cond (is_round s.head s.span at) (tied_before s.head.end 0 vars) []
-rhs_hides vars at s _ = []
+-- what the right side of a statement hides in its block: a recover block the writable and readable variables that are declared before it
+abbrev pub rhs_hides : List VarInfo → Stmt → Rhs → List ℕ
+rhs_hides vars s (Recover b w give) = tied_before s.head.end 0 vars
+rhs_hides vars s _ = []
 
 -- the same of a statement
-abbrev pub hides_at : List VarInfo → Span → Stmt → StmtKind → List ℕ
-hides_at vars at s (Assign t x r) = rhs_hides vars at s r
-hides_at vars at s _ = []
+abbrev pub hides_of : List VarInfo → Stmt → StmtKind → List ℕ
+hides_of vars s (Assign t x r) = rhs_hides vars s r
+hides_of vars s _ = []
 
--- the variables that are hidden at a place of a method
-abbrev pub hidden_at : Tables → ℕ → Span → List ℕ
-hidden_at u m at = flat_map (λ s. hides_at (vars_at u m) at s s.kind) u.program.stmts
+-- what some statements hide at a place, each by the places within it
+abbrev pub hidden_by : List VarInfo → ℕ → List (List ℕ) → List Stmt → List ℕ
+hidden_by vars at (inside ∷ rest) (s ∷ ss) = cond (those inside at) (hides_of vars s s.kind) [] ++ hidden_by vars at rest ss
+hidden_by vars at _ _ = []
+
+-- the variables that are hidden at a place of a method: those that a statement round it hides, the innermost first, since each stands behind what it holds
+abbrev pub hidden_at : Tables → ℕ → ℕ → List ℕ
+hidden_at u m at = hidden_by (vars_at u m) at (all_within u.program.stmts) u.program.stmts
 
 -- what the parts at a place of a method are checked by
-abbrev pub context_at : Tables → ℕ → Span → Context
+abbrev pub context_at : Tables → ℕ → ℕ → Context
 context_at u m at = hiding (hidden_at u m at) (context (code_of u) (routine_at u m))
 
 -- ---------- blocks ----------
@@ -124,19 +125,19 @@ par_mode_of u m left right =
 abbrev pub stmt_code_at : Tables → ℕ → ℕ → Code
 stmt_code_at u m at = stmt_code (setting_at u m) at End
 
--- from the live set G the statement s at a place goes to H
-abbrev pub StmtGoes : Tables → ℕ → ℕ → Stmt → Vars → Vars → Type 0
-StmtGoes u m at s G H = Goes (context_at u m s.span) (stmt_code_at u m at) G H
+-- from the live set G the statement at a place goes to H
+abbrev pub StmtGoes : Tables → ℕ → ℕ → Vars → Vars → Type 0
+StmtGoes u m at G H = Goes (context_at u m at) (stmt_code_at u m at) G H
 
--- the first refused part of the statement s at a place, which is entered with G
-abbrev pub stmt_refusal : Tables → ℕ → ℕ → Stmt → Vars → Option TypeError
-stmt_refusal u m at s G = first_refused (context_at u m s.span) (stmt_code_at u m at) G
+-- the first refused part of the statement at a place, which is entered with G
+abbrev pub stmt_refusal : Tables → ℕ → ℕ → Vars → Option TypeError
+stmt_refusal u m at G = first_refused (context_at u m at) (stmt_code_at u m at) G
 
 -- the live set, unless something is refused
 abbrev pub flow_unless : Option TypeError → Vars → Result Vars TypeError
 flow_unless None H = Ok H
 flow_unless (Some e) H = Err e
 
--- the live set after the statement s at a place, or the first refusal within it
-abbrev pub flow_of : Tables → ℕ → ℕ → Stmt → Vars → Result Vars TypeError
-flow_of u m at s G = flow_unless (stmt_refusal u m at s G) (changed (effect (stmt_code_at u m at)) G)
+-- the live set after the statement at a place, or the first refusal within it
+abbrev pub flow_of : Tables → ℕ → ℕ → Vars → Result Vars TypeError
+flow_of u m at G = flow_unless (stmt_refusal u m at G) (changed (effect (stmt_code_at u m at)) G)

@@ -1,47 +1,27 @@
 -- The statements and blocks of a method's body, by their places.
-use Rattle.std.specs.Prelude.{◌≡◌, ℕ, List, [], ◌∷◌, ◌++◌, flat_map, get_or, Option, Some, None, slice_get, Contains}
+use Rattle.std.specs.Prelude.{◌≡◌, ℕ, List, [], ◌∷◌, ◌++◌, get_or, Option, Some, None, slice_get, Contains}
 use Rattle.perm_tree.specs.declared.ast.Stmt.{Stmt}
-use Rattle.perm_tree.specs.declared.ast.StmtKind.{StmtKind}
-use Rattle.perm_tree.specs.declared.ast.StmtKind.TheVariants.{Assign, If, While, Par}
-use Rattle.perm_tree.specs.declared.ast.Rhs.{Rhs}
-use Rattle.perm_tree.specs.declared.ast.Rhs.TheVariants.{Recover}
+use Rattle.perm_tree.specs.declared.ast.StmtKind.TheVariants.{Par}
 use Rattle.perm_tree.specs.declared.ast.Block.{Block}
 use Rattle.perm_tree.specs.declared.ast.Method.{Method}
 use Rattle.perm_tree.specs.declared.unit.MethodTable.{MethodTable}
+use Rattle.perm_tree.specs.Blocks.{kind_blocks, block_places}
+use Rattle.perm_tree.specs.Entries.{entries_of}
 use Rattle.perm_tree.specs.Lookup.{method_of}
 use Rattle.perm_tree.specs.UnitTables.{Tables}
 
--- the block of a recover
-abbrev pub rhs_blocks : Rhs → List Block
-rhs_blocks (Recover b w give) = b ∷ []
-rhs_blocks _ = []
-
--- the blocks of a statement; an `else` that isn't there is none
-abbrev pub blocks_of : StmtKind → List Block
-blocks_of (Assign t x r) = rhs_blocks r
-blocks_of (If e a None) = a ∷ []
-blocks_of (If e a (Some b)) = a ∷ b ∷ []
-blocks_of (While e a) = a ∷ []
-blocks_of (Par a b) = a ∷ b ∷ []
-blocks_of _ = []
+-- the places of the statements of a statement's blocks
+abbrev pub inner_places : Stmt → List ℕ
+inner_places s = block_places (kind_blocks s.kind)
 
 -- the places of some statements and of those within their blocks, where inner has the places within each statement
 abbrev pub places_with : List (List ℕ) → List ℕ → List ℕ
 places_with inner [] = []
 places_with inner (i ∷ is) = i ∷ (get_or inner i [] ++ places_with inner is)
 
--- the places of the statements within a statement's blocks
-abbrev pub places_within : List (List ℕ) → StmtKind → List ℕ
-places_within inner k = flat_map (λ b. places_with inner b.stmts) (blocks_of k)
-
--- the same for each of some statements, behind those of the statements before them
-abbrev pub all_within_from : List (List ℕ) → List Stmt → List (List ℕ)
-all_within_from inner [] = inner
-all_within_from inner (s ∷ ss) = all_within_from (inner ++ places_within inner s.kind ∷ []) ss
-
 -- for each statement the places of the statements within its blocks
 abbrev pub all_within : List Stmt → List (List ℕ)
-all_within stmts = all_within_from [] stmts
+all_within stmts = entries_of (λ inner s. places_with inner (inner_places s)) stmts
 
 -- the statements of a method's body, if the method is there
 abbrev pub body_if : Option Method → List ℕ
@@ -73,7 +53,7 @@ pub record HasStmt (u : Tables) (m at : ℕ) (s : Stmt) : Type 0 where
 -- a block is the body itself, or one of a statement of it
 pub data IsBlockOf (u : Tables) (m : ℕ) (b : Block) : Type 0 where
   Body : (d : Method) → method_at u m ≡ Some d → b ≡ d.body → IsBlockOf u m b
-  Inner : (at : ℕ) (s : Stmt) → HasStmt u m at s → Contains (blocks_of s.kind) b → IsBlockOf u m b
+  Inner : (at : ℕ) (s : Stmt) → HasStmt u m at s → Contains (kind_blocks s.kind) b → IsBlockOf u m b
 
 -- two blocks are those of one par of the body
 pub record AreParOf (u : Tables) (m : ℕ) (left right : Block) : Type 0 where

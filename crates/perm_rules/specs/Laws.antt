@@ -1,7 +1,6 @@
 -- What the laws of the typing rules claim.
-use Rattle.std.specs.Prelude.{◌≡◌, ◌↔◌, ℕ, false, ◌&&◌, cond, length, None, Some, Ok, is_none, slice_get}
+use Rattle.std.specs.Prelude.{◌≡◌, ◌↔◌, ℕ, false, ◌&&◌, cond, List, ◌++◌, length, None, Some, Ok, is_none, slice_get}
 use Rattle.perm_tree.specs.declared.ast.Block.{Block}
-use Rattle.perm_tree.specs.declared.ast.Stmt.{Stmt}
 use Rattle.perm_tree.specs.Code.{Code, Routine, UnitCode}
 use Rattle.perm_tree.specs.CodeOf.{code_of}
 use Rattle.perm_tree.specs.Resolves.{IsResolved}
@@ -9,10 +8,11 @@ use Rattle.perm_tree.specs.UnitTables.{Tables}
 use Rattle.perm_tree.specs.Vars.{Vars, below, IsWithin}
 use Rattle.perm_rules.specs.Parts.{Context, type_of}
 use Rattle.perm_rules.specs.Effects.{effect, changed}
-use Rattle.perm_rules.specs.Goes.{Goes, IsAccepted, context}
+use Rattle.perm_rules.specs.Goes.{Goes, IsAccepted, context, first_live}
 use Rattle.perm_rules.specs.Sharing.{AllSharePlainly}
-use Rattle.perm_rules.specs.FirstRefused.{first_refused, unit_refusal}
-use Rattle.perm_rules.specs.AtPlace.{vars_at, whole_effect_of, effect_of, StmtGoes, flow_of}
+use Rattle.perm_rules.specs.FirstRefused.{Entry, entries, first_refused, unit_refusal}
+use Rattle.perm_rules.specs.InBody.{IsStmtOf}
+use Rattle.perm_rules.specs.AtPlace.{vars_at, context_at, whole_effect_of, effect_of, stmt_code_at, StmtGoes, flow_of}
 
 -- a code that goes from a live set goes to that without what its effect loses, with what it makes
 abbrev pub GoesByEffect : Type 0
@@ -40,7 +40,19 @@ AcceptedUnrefused = (u : UnitCode) → IsAccepted u ↔ (unit_refusal u ≡ None
 
 -- a statement goes from a live set to another exactly where its flow gives that
 abbrev pub FlowGoes : Type 0
-FlowGoes = (u : Tables) (m at : ℕ) (s : Stmt) (G H : Vars) → StmtGoes u m at s G H ↔ (flow_of u m at s G ≡ Ok H)
+FlowGoes = (u : Tables) (m at : ℕ) (G H : Vars) → StmtGoes u m at G H ↔ (flow_of u m at G ≡ Ok H)
+
+-- among some entries stand, one behind the other, those of a code that is entered with some live set
+pub record HasStretch (c : Context) (a : Code) (all : List Entry) : Type 0 where
+  pub live : Vars
+  pub before : List Entry
+  pub behind : List Entry
+  pub split : all ≡ before ++ (entries c a live ++ behind)
+
+-- among the entries of a method of a unit stand those of each of its statements, checked by what is told of its place
+abbrev pub PlaceContext : Type 0
+PlaceContext = (u : Tables) (m at : ℕ) (r : Routine) → IsResolved u → slice_get (code_of u).routines m ≡ Some r → IsStmtOf u m at
+    → HasStretch (context_at u m at) (stmt_code_at u m at) (entries (context (code_of u) r) r.code (first_live r))
 
 -- two live sets have the same known variables
 abbrev pub AgreeOnKnown : Context → Vars → Vars → Type 0

@@ -1,6 +1,6 @@
 //! Laws of the typing rules. A law does nothing: its contract is the claim.
 
-ghost use Rattle.perm_rules.specs.Laws.{GoesByEffect, LosesOrMakes, GoesFromMore, ChangesKnown, GoesUnrefused, AcceptedUnrefused, FlowGoes, PlainlyShared, RefusedByKnown};
+ghost use Rattle.perm_rules.specs.Laws.{GoesByEffect, LosesOrMakes, GoesFromMore, ChangesKnown, GoesUnrefused, AcceptedUnrefused, FlowGoes, PlainlyShared, RefusedByKnown, PlaceContext};
 
 /// What goes is told by effects, and a larger live set stays larger; the effect of a block is told by the variables of its method alone.
 pub fn effects()
@@ -21,4 +21,9 @@ pub fn refusals()
 /// Whether a par of a unit is refused as shared is told by what its blocks assign and consume alone.
 pub fn pars()
     ensures { PlainlyShared }
+{}
+
+/// What is told of a statement by its place is what is told of it within its method.
+pub fn places()
+    ensures { PlaceContext }
 {}

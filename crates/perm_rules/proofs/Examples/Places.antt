@@ -31,10 +31,10 @@ flow_shown (Err e) = StopsAt e.kind
 
 abbrev flow_if : Tables → ℕ → ℕ → Option Stmt → Vars → Flow
 flow_if u m at None G = NoStmt
-flow_if u m at (Some s) G = flow_shown (flow_of u m at s G)
+flow_if u m at (Some s) G = flow_shown (flow_of u m at G)
 
 -- the flow of the statement at a place of the method with number m
-abbrev flow : Tables → ℕ → ℕ → Vars → Flow
+abbrev pub flow : Tables → ℕ → ℕ → Vars → Flow
 flow u m at G = flow_if u m at (slice_get u.program.stmts at) G
 
 -- `w.other = r;` within a recover block that hides r
