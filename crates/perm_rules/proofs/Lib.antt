@@ -9,4 +9,5 @@ pub mod Effects
 pub mod Refusals
 pub mod Hiding
 pub mod Pars
+pub mod Modes
 mod Examples

@@ -17,13 +17,13 @@ use Rattle.perm_tree.specs.CodeOf.{Setting, setting, code_of, stmt_code, block_c
 use Rattle.perm_tree.specs.UnitTables.{Tables}
 use Rattle.perm_tree.specs.Vars.{Vars, those}
 use Rattle.perm_rules.specs.declared.ParMode.{ParMode}
-use Rattle.perm_rules.specs.Parts.{Context}
+use Rattle.perm_rules.specs.Parts.{Context, ParHead}
 use Rattle.perm_rules.specs.Pars.{uses, sets, par_head, mode_of}
 use Rattle.perm_rules.specs.Refusals.{refusal}
 use Rattle.perm_rules.specs.Effects.{Effect, effect, changed, block_effect, known_effect}
 use Rattle.perm_rules.specs.InBody.{all_within}
-use Rattle.perm_rules.specs.Goes.{Goes, context, hiding, HasDerivation}
-use Rattle.perm_rules.specs.FirstRefused.{first_refused, method_refusal}
+use Rattle.perm_rules.specs.Goes.{Goes, context, hiding}
+use Rattle.perm_rules.specs.FirstRefused.{first_refused}
 
 -- ---------- the method with number m ----------
 -- what a number past the last stands for: a method of no statements
@@ -46,14 +46,6 @@ vars_at u m = vars_if (slice_get u.tables m)
 -- what its code is made with
 abbrev pub setting_at : Tables → ℕ → Setting
 setting_at u m = setting u (vars_at u m)
-
--- it has a derivation
-abbrev pub IsDerivedAt : Tables → ℕ → Type 0
-IsDerivedAt u m = HasDerivation (code_of u) (routine_at u m)
-
--- its first refused part
-abbrev pub refusal_at : Tables → ℕ → Option TypeError
-refusal_at u m = method_refusal (code_of u) (routine_at u m)
 
 -- ---------- what is hidden at a place ----------
 -- what the right side of a statement hides in its block: a recover block the writable and readable variables that are declared before it
@@ -118,6 +110,13 @@ abbrev pub par_mode_of : Tables → ℕ → Block → Block → Result ParMode T
 par_mode_of u m left right =
     mode_unless
     (refusal (plain_context u m) (par_head (plain_context u m) (own_at u m left) (block_code_at u m left) (own_at u m right) (block_code_at u m right)) (λ x. true))
+    (mode_of (plain_context u m) (uses_of u m left) (uses_of u m right))
+
+-- the same by what the blocks assign and consume alone, which is as much in each par of a unit (`laws::pars`)
+abbrev pub plain_mode_of : Tables → ℕ → Block → Block → Result ParMode TypeKind
+plain_mode_of u m left right =
+    mode_unless
+    (refusal (plain_context u m) (ParHead (uses_of u m left) (uses_of u m right) (sets_of u m left) (sets_of u m right)) (λ x. true))
     (mode_of (plain_context u m) (uses_of u m left) (uses_of u m right))
 
 -- ---------- statements ----------

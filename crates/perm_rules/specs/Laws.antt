@@ -11,8 +11,8 @@ use Rattle.perm_rules.specs.Effects.{effect, changed}
 use Rattle.perm_rules.specs.Goes.{Goes, IsAccepted, context, first_live}
 use Rattle.perm_rules.specs.Sharing.{AllSharePlainly}
 use Rattle.perm_rules.specs.FirstRefused.{Entry, entries, first_refused, unit_refusal}
-use Rattle.perm_rules.specs.InBody.{IsStmtOf}
-use Rattle.perm_rules.specs.AtPlace.{vars_at, context_at, whole_effect_of, effect_of, stmt_code_at, StmtGoes, flow_of}
+use Rattle.perm_rules.specs.InBody.{IsStmtOf, AreParOf}
+use Rattle.perm_rules.specs.AtPlace.{vars_at, context_at, whole_effect_of, effect_of, par_mode_of, plain_mode_of, stmt_code_at, StmtGoes, flow_of}
 
 -- a code that goes from a live set goes to that without what its effect loses, with what it makes
 abbrev pub GoesByEffect : Type 0
@@ -65,3 +65,7 @@ RefusedByKnown = (c : Context) (a : Code) (G H : Vars) → AgreeOnKnown c G H �
 -- in each par of a unit, what the blocks declare is no reason to refuse it
 abbrev pub PlainlyShared : Type 0
 PlainlyShared = (u : Tables) (m : ℕ) (r : Routine) → IsResolved u → slice_get (code_of u).routines m ≡ Some r → AllSharePlainly (context (code_of u) r) r.code
+
+-- the mode of the blocks of a par of a unit, or why they may not be side by side, is told by what they assign and consume alone
+abbrev pub ModeByWrites : Type 0
+ModeByWrites = (u : Tables) (m : ℕ) (left right : Block) → IsResolved u → AreParOf u m left right → par_mode_of u m left right ≡ plain_mode_of u m left right

@@ -1,6 +1,6 @@
 //! Laws of the typing rules. A law does nothing: its contract is the claim.
 
-ghost use Rattle.perm_rules.specs.Laws.{GoesByEffect, LosesOrMakes, GoesFromMore, ChangesKnown, GoesUnrefused, AcceptedUnrefused, FlowGoes, PlainlyShared, RefusedByKnown, PlaceContext};
+ghost use Rattle.perm_rules.specs.Laws.{GoesByEffect, LosesOrMakes, GoesFromMore, ChangesKnown, GoesUnrefused, AcceptedUnrefused, FlowGoes, PlainlyShared, RefusedByKnown, PlaceContext, ModeByWrites};
 
 /// What goes is told by effects, and a larger live set stays larger; the effect of a block is told by the variables of its method alone.
 pub fn effects()
@@ -18,9 +18,10 @@ pub fn refusals()
     ensures known { RefusedByKnown }
 {}
 
-/// Whether a par of a unit is refused as shared is told by what its blocks assign and consume alone.
+/// Whether a par of a unit is refused as shared, and its mode, are told by what its blocks assign and consume alone.
 pub fn pars()
-    ensures { PlainlyShared }
+    ensures shared { PlainlyShared }
+    ensures mode { ModeByWrites }
 {}
 
 /// What is told of a statement by its place is what is told of it within its method.

@@ -8,11 +8,11 @@ use Rattle.perm_tree.specs.declared.errors.TypeError.{TypeError}
 use Rattle.perm_tree.specs.UnitTables.{Tables}
 use Rattle.perm_tree.specs.Vars.{Vars, below}
 use Rattle.perm_tree.proofs.Builder.{truth, assign, consumed, if_only}
-use Rattle.perm_tree.proofs.Programs.{unit, p6}
+use Rattle.perm_tree.proofs.Programs.{unit, p1, p6}
 use Rattle.perm_tree.proofs.ParPrograms.{p4, p4_both, p11, p11_shared}
 use Rattle.perm_rules.specs.declared.ParMode.{ParMode}
 use Rattle.perm_rules.specs.declared.ParMode.TheVariants.{Symmetric, LeftAlone}
-use Rattle.perm_rules.specs.AtPlace.{flow_of, par_mode_of, uses_of, sets_of, effect_of, whole_effect_of}
+use Rattle.perm_rules.specs.AtPlace.{flow_of, par_mode_of, plain_mode_of, uses_of, sets_of, effect_of, whole_effect_of}
 use Rattle.perm_rules.specs.InBody.{body_places}
 use Rattle.perm_rules.proofs.Examples.Kinds.{with_lines}
 
@@ -67,6 +67,22 @@ lends-left-alone = refl
 -- `this.mark = 4;` beside `this.mark = 5;`
 marks-permission : mode (unit p4_both) 1 (6 ∷ []) (7 ∷ []) ≡ Err ParPermission
 marks-permission = refl
+
+-- the same by what the blocks assign and consume alone
+abbrev plain_mode : Tables → ℕ → List ℕ → List ℕ → Result ParMode TypeKind
+plain_mode u m a b = plain_mode_of u m (record { stmts = a }) (record { stmts = b })
+
+plain-modes :
+    (plain_mode (unit p11) 0 (2 ∷ []) (3 ∷ []) ∷ plain_mode (unit p11_shared) 0 (2 ∷ []) (3 ∷ []) ∷ plain_mode (unit p4) 1 (6 ∷ []) (7 ∷ []) ∷ plain_mode (unit p4_both) 1 (6 ∷ []) (7 ∷ []) ∷ [])
+    ≡ Ok Symmetric ∷ Err ParShared ∷ Ok LeftAlone ∷ Err ParPermission ∷ []
+plain-modes = refl
+
+-- `long a = p.x;` beside `print a + b;`, which are no par: a is declared by the one and stands in the other, and so the two tests differ
+no-par : mode (unit p1) 0 (3 ∷ []) (5 ∷ []) ≡ Err ParShared
+no-par = refl
+
+no-par-plain : plain_mode (unit p1) 0 (3 ∷ []) (5 ∷ []) ≡ Ok Symmetric
+no-par-plain = refl
 
 -- `got = d.Bump();` mentions d and got, and assigns got
 bump-uses : first_six (uses_of (unit p4) 1 (record { stmts = 6 ∷ [] })) ≡ false ∷ false ∷ false ∷ true ∷ true ∷ false ∷ []

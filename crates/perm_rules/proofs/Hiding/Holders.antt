@@ -18,6 +18,14 @@ not-true : (b : Bool) → (b ≡ true → ⊥) → b ≡ false
 not-true true f = absurd (f refl)
 not-true false f = refl
 
+-- an element whose place is in range is there
+pub element-there : {X : Type 0} (xs : List X) (i : ℕ) → i < length xs → (x : X) × (slice_get xs i ≡ Some x)
+element-there {X} xs i less = pick (slice_get_cases xs i).1
+  where
+    pick : ((x : X) × (i < length xs) × (slice_get xs i ≡ Some x) × (get_or xs i x ≡ x)) ⊎ ((length xs ≤ i) × (slice_get xs i ≡ None)) → (x : X) × (slice_get xs i ≡ Some x)
+    pick (inl (x, small, here, is)) = (x, here)
+    pick (inr both) = let past : length xs ≤ i = both.0 in absurd (omega arith)
+
 listed-below : (n : ℕ) (is : List ℕ) (i : ℕ) → AllBelow n is → those is i ≡ true → i < n
 listed-below n [] i all e = absurd (let no : ⊥ = cc e in no)
 listed-below n (j ∷ is) i all e = pick (or_cases (nat_eq i j) (those is i) e) (λ q. listed-below n is i all.1 q)

@@ -2,7 +2,6 @@
 use Rattle.std.proofs.Common.{◌≡◌, ℕ, zero, suc, ◌<◌, ◌≤◌, true, false, List, [], ◌∷◌, ◌++◌, length, Option, Some, None, refl, sym, ◌∙◌, ap, subst, arith, get_or, inl, inr, append_assoc, append-nil, le_refl}
 use Rattle.std.specs.Prelude.{◌⊎◌, nat_eq, slice_get}
 use Rattle.std.proofs.lemmas.Bool.{eqb-true, eq-eqb, or_cases, or_left}
-use Rattle.std.proofs.lemmas.Option.{slice_get_cases}
 use Rattle.perm_tree.specs.declared.ast.Block.{Block}
 use Rattle.perm_tree.specs.declared.ast.Rhs.{Rhs}
 use Rattle.perm_tree.specs.declared.ast.Rhs.TheVariants.{Value, Field, TakeField as TakeRhs, Item, New, NewArray as NewArrayRhs, Call as CallRhs, Recover as RecoverRhs}
@@ -26,7 +25,7 @@ use Rattle.perm_rules.specs.Laws.{HasStretch}
 use Rattle.perm_rules.specs.Pars.{par_head}
 use Rattle.perm_rules.specs.Parts.{Context, Condition, RecoverHead}
 use Rattle.perm_rules.proofs.Hiding.StandOnce.{those-left, those-right, those-parts}
-use Rattle.perm_rules.proofs.Hiding.Holders.{opened, within-at, hidden-by-holder}
+use Rattle.perm_rules.proofs.Hiding.Holders.{element-there, opened, within-at, hidden-by-holder}
 
 -- ---------- stretches ----------
 stretch-front : {c : Context} {a : Code} (xs ys : List Entry) → HasStretch c a xs → HasStretch c a (xs ++ ys)
@@ -53,11 +52,11 @@ below-append n (i ∷ is) js f g = (f.0, below-append n is js f.1 g)
 one-below : (n : ℕ) (b : Block) → AllBelow n b.stmts → AllBelow n (block_places (b ∷ []))
 one-below n b f = below-append n b.stmts [] f tt
 
-else-below : (n : ℕ) (b : Option Block) → ElseBelow n b → AllBelow n (else_stmts b)
+pub else-below : (n : ℕ) (b : Option Block) → ElseBelow n b → AllBelow n (else_stmts b)
 else-below n None f = tt
 else-below n (Some b) f = f
 
-else-places : (b : Option Block) → block_places (else_blocks b) ≡ else_stmts b
+pub else-places : (b : Option Block) → block_places (else_blocks b) ≡ else_stmts b
 else-places None = refl
 else-places (Some b) = append-nil b.stmts
 
@@ -89,7 +88,7 @@ places-append inner (i ∷ is) js =
     ap (λ xs. i ∷ (get_or inner i [] ++ xs)) (places-append inner is js) ∙ ap (λ xs. i ∷ xs) (sym (append_assoc (get_or inner i []) (places_with inner is) (places_with inner js)))
 
 -- a place in or within two lists of statements is in or within the one or the other
-places-parts : (inner : List (List ℕ)) (is js : List ℕ) (at : ℕ) → those (places_with inner (is ++ js)) at ≡ true → (those (places_with inner is) at ≡ true) ⊎ (those (places_with inner js) at ≡ true)
+pub places-parts : (inner : List (List ℕ)) (is js : List ℕ) (at : ℕ) → those (places_with inner (is ++ js)) at ≡ true → (those (places_with inner is) at ≡ true) ⊎ (those (places_with inner js) at ≡ true)
 places-parts inner is js at e = those-parts (places_with inner is) (places_with inner js) at (subst (λ xs. those xs at ≡ true) (places-append inner is js) e)
 
 -- ---------- one statement before others ----------
@@ -180,17 +179,10 @@ module _ (k : Setting) (top : Context) (placed : IsPlaced k.tables.program)
   BlockHolds n at = (is : List ℕ) → AllBelow n is → (last : Code) (H : List ℕ) (G : Vars) → ((i : ℕ) → those is i ≡ true → hidden i ≡ H) → those (places_with within is) at ≡ true
       → StandsIn at (entries (hiding H top) (block_code k is last) G)
 
-  stmt-there : (i : ℕ) → i < length stmts → (s : Stmt) × (slice_get stmts i ≡ Some s)
-  stmt-there i less = pick (slice_get_cases stmts i).1
-    where
-      pick : ((x : Stmt) × (i < length stmts) × (slice_get stmts i ≡ Some x) × (get_or stmts i x ≡ x)) ⊎ ((length stmts ≤ i) × (slice_get stmts i ≡ None)) → (s : Stmt) × (slice_get stmts i ≡ Some s)
-      pick (inl (x, small, here, is)) = (x, here)
-      pick (inr both) = let past : length stmts ≤ i = both.0 in absurd (omega arith)
-
   block-holds : (n at : ℕ) → n ≤ length stmts → ((j : ℕ) → j < n → StmtHolds j) → BlockHolds n at
   block-holds n at room all [] below last H G same e = absurd (let no : ⊥ = cc e in no)
   block-holds n at room all (i ∷ is) below last H G same e =
-      go (stmt-there i (let small : i < n = below.0 in omega arith)) (λ K q. block-holds n at room all is below.1 last H K (λ j f. same j (those-right (i ∷ []) is j f)) q)
+      go (element-there stmts i (let small : i < n = below.0 in omega arith)) (λ K q. block-holds n at room all is below.1 last H K (λ j f. same j (those-right (i ∷ []) is j f)) q)
     where
       own : hidden i ≡ H
       own = same i (those-left (i ∷ []) is i (those-first i))
