@@ -2,4 +2,5 @@ pub mod OverAll
 pub mod OrderLaws
 pub mod OrderPairs
 pub mod AdaptationLaws
+pub mod Fitting
 mod Tables

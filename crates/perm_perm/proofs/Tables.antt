@@ -1,14 +1,12 @@
 -- Each cell of the tables, by computation. Rows and columns are in the order isolated, immutable, readable, writable.
-use Rattle.std.specs.Prelude.{◌≡◌, Bool, true, false, ◌&&◌, not, List, [], ◌∷◌, Some, None, refl}
+use Rattle.std.specs.Prelude.{◌≡◌, true, false, List, [], ◌∷◌, Some, None, refl}
 use Rattle.perm_tree.specs.declared.ast.Perm.{Perm}
 use Rattle.perm_tree.specs.declared.ast.Perm.TheVariants.{Isolated, Immutable, Readable, Writable}
 use Rattle.perm_tree.specs.declared.ast.Shape.TheVariants.{Class, Array}
-use Rattle.perm_tree.specs.declared.ast.Ty.{Ty}
 use Rattle.perm_tree.specs.declared.ast.Ty.TheVariants.{Long, Bool as Boolean, Ref}
 use Rattle.perm_perm.specs.Order.{is_at_most}
 use Rattle.perm_perm.specs.Adaptation.{adapted, raised}
-use Rattle.perm_perm.specs.Types.{fits, fits_null, raised_type, same_kind, is_too_weak}
-use Rattle.perm_tree.specs.Shapes.{same_shape}
+use Rattle.perm_perm.specs.Types.{fits, fits_null, raised_type}
 
 abbrev row : {A : Type 0} → (Perm → A) → List A
 row f = f Isolated ∷ f Immutable ∷ f Readable ∷ f Writable ∷ []
@@ -29,23 +27,6 @@ adaptation_table = refl
 
 raised_row : row raised ≡ Isolated ∷ Immutable ∷ Immutable ∷ Isolated ∷ []
 raised_row = refl
-
--- a value fits exactly where shapes fit and the permission isn't too weak
-fits-parts : (t u : Ty) → fits t u ≡ (same_kind t u && not (is_too_weak t u))
-fits-parts Long Long = refl
-fits-parts Long Boolean = refl
-fits-parts Long (Ref q l) = refl
-fits-parts Boolean Long = refl
-fits-parts Boolean Boolean = refl
-fits-parts Boolean (Ref q l) = refl
-fits-parts (Ref p k) Long = refl
-fits-parts (Ref p k) Boolean = refl
-fits-parts (Ref p k) (Ref q l) = go (same_shape k l) (is_at_most p q)
-  where
-    go : (a b : Bool) → (a && b) ≡ (a && not (a && not b))
-    go true true = refl
-    go true false = refl
-    go false b = refl
 
 -- one shape and a permission that is at most the other
 fits_subclass : fits (Ref Isolated (Class 3)) (Ref Writable (Class 3)) ≡ true

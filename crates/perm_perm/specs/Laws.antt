@@ -1,9 +1,11 @@
--- What the laws of the order and of adaptation claim.
-use Rattle.std.specs.Prelude.{◌≡◌, IsTrue, Some}
+-- What the laws of the order, of adaptation and of types claim.
+use Rattle.std.specs.Prelude.{◌≡◌, ◌&&◌, not, IsTrue, Some}
 use Rattle.perm_tree.specs.declared.ast.Perm.{Perm}
 use Rattle.perm_tree.specs.declared.ast.Perm.TheVariants.{Isolated, Readable}
+use Rattle.perm_tree.specs.declared.ast.Ty.{Ty}
 use Rattle.perm_perm.specs.Order.{is_at_most}
 use Rattle.perm_perm.specs.Adaptation.{adapted}
+use Rattle.perm_perm.specs.Types.{same_kind, fits, is_too_weak}
 
 -- the one permission is at most the other
 abbrev pub IsAtMost : Perm → Perm → Type 0
@@ -36,3 +38,7 @@ IsMonotone = (p q r s a b : Perm) → IsAtMost p q → IsAtMost r s → adapted 
 -- reading a field of a field goes by the one or by the other field first, where both ways give something
 abbrev pub IsAssociative : Type 0
 IsAssociative = (p q r a b c d : Perm) → adapted p q ≡ Some a → adapted a r ≡ Some b → adapted q r ≡ Some c → adapted p c ≡ Some d → b ≡ d
+
+-- a value of a type may come into a variable of another exactly where the two are of one kind and the permission isn't too weak
+abbrev pub FitsByParts : Type 0
+FitsByParts = (t u : Ty) → fits t u ≡ (same_kind t u && not (is_too_weak t u))

@@ -1,6 +1,6 @@
-//! Laws of the order and of adaptation. A law does nothing: its contract is the claim.
+//! Laws of the order, of adaptation and of types. A law does nothing: its contract is the claim.
 
-ghost use Rattle.perm_perm.specs.Laws.{IsReflexive, IsTransitive, IsAntisymmetric, IsolatedIsLeast, ReadableIsGreatest, IsMonotone, IsAssociative};
+ghost use Rattle.perm_perm.specs.Laws.{IsReflexive, IsTransitive, IsAntisymmetric, IsolatedIsLeast, ReadableIsGreatest, IsMonotone, IsAssociative, FitsByParts};
 
 /// The order is a partial order with a least and a greatest permission.
 pub fn order()
@@ -15,4 +15,9 @@ pub fn order()
 pub fn adaptation()
     ensures monotone { IsMonotone }
     ensures associative { IsAssociative }
+{}
+
+/// Whether a value may come into a variable is told by two tests, of which each refusal of typing makes one.
+pub fn fitting()
+    ensures { FitsByParts }
 {}
