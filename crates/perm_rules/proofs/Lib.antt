@@ -10,4 +10,5 @@ pub mod Refusals
 pub mod Hiding
 pub mod Pars
 pub mod Modes
+pub mod PartOrder
 mod Examples

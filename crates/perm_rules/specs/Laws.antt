@@ -1,9 +1,10 @@
 -- What the laws of the typing rules claim.
-use Rattle.std.specs.Prelude.{◌≡◌, ◌↔◌, ℕ, false, ◌&&◌, cond, List, ◌++◌, length, None, Some, Ok, is_none, slice_get}
+use Rattle.std.specs.Prelude.{◌≡◌, ◌↔◌, ℕ, false, ◌&&◌, cond, List, ◌++◌, map, length, None, Some, Ok, is_none, slice_get}
 use Rattle.perm_tree.specs.declared.ast.Block.{Block}
 use Rattle.perm_tree.specs.Code.{Code, Routine, UnitCode}
 use Rattle.perm_tree.specs.CodeOf.{code_of}
 use Rattle.perm_tree.specs.Resolves.{IsResolved}
+use Rattle.perm_tree.specs.TextOrder.{ends, IsRising}
 use Rattle.perm_tree.specs.UnitTables.{Tables}
 use Rattle.perm_tree.specs.Vars.{Vars, below, IsWithin}
 use Rattle.perm_rules.specs.Parts.{Context, type_of}
@@ -69,3 +70,7 @@ PlainlyShared = (u : Tables) (m : ℕ) (r : Routine) → IsResolved u → slice_
 -- the mode of the blocks of a par of a unit, or why they may not be side by side, is told by what they assign and consume alone
 abbrev pub ModeByWrites : Type 0
 ModeByWrites = (u : Tables) (m : ℕ) (left right : Block) → IsResolved u → AreParOf u m left right → par_mode_of u m left right ≡ plain_mode_of u m left right
+
+-- the parts of a method of a unit stand in text order: each ends no sooner than the one before it
+abbrev pub PartsInOrder : Type 0
+PartsInOrder = (u : Tables) (m : ℕ) (r : Routine) → IsResolved u → slice_get (code_of u).routines m ≡ Some r → IsRising 0 (map (λ e. ends e.at.end) (entries (context (code_of u) r) r.code (first_live r)))

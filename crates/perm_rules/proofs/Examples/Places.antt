@@ -1,10 +1,11 @@
 -- Statements and blocks named by their places, by computation.
-use Rattle.std.specs.Prelude.{◌≡◌, ℕ, Bool, true, false, List, [], ◌∷◌, map, Option, Some, None, slice_get, refl, Result, Ok, Err}
+use Rattle.std.specs.Prelude.{◌≡◌, ℕ, Bool, true, false, ◌&&◌, nat_le, List, [], ◌∷◌, map, Option, Some, None, slice_get, refl, Result, Ok, Err}
 use Rattle.perm_tree.specs.declared.ast.Block.{Block}
 use Rattle.perm_tree.specs.declared.ast.Stmt.{Stmt}
 use Rattle.perm_tree.specs.declared.errors.TypeKind.{TypeKind}
 use Rattle.perm_tree.specs.declared.errors.TypeKind.TheVariants.{Gone, Hidden, ParShared, ParPermission}
 use Rattle.perm_tree.specs.declared.errors.TypeError.{TypeError}
+use Rattle.perm_tree.specs.CodeOf.{code_of}
 use Rattle.perm_tree.specs.UnitTables.{Tables}
 use Rattle.perm_tree.specs.Vars.{Vars, below}
 use Rattle.perm_tree.proofs.Builder.{truth, assign, consumed, if_only}
@@ -12,7 +13,9 @@ use Rattle.perm_tree.proofs.Programs.{unit, p1, p6}
 use Rattle.perm_tree.proofs.ParPrograms.{p4, p4_both, p11, p11_shared}
 use Rattle.perm_rules.specs.declared.ParMode.{ParMode}
 use Rattle.perm_rules.specs.declared.ParMode.TheVariants.{Symmetric, LeftAlone}
-use Rattle.perm_rules.specs.AtPlace.{flow_of, par_mode_of, plain_mode_of, uses_of, sets_of, effect_of, whole_effect_of}
+use Rattle.perm_rules.specs.AtPlace.{routine_at, flow_of, par_mode_of, plain_mode_of, uses_of, sets_of, effect_of, whole_effect_of}
+use Rattle.perm_rules.specs.FirstRefused.{entries}
+use Rattle.perm_rules.specs.Goes.{context, first_live}
 use Rattle.perm_rules.specs.InBody.{body_places}
 use Rattle.perm_rules.proofs.Examples.Kinds.{with_lines}
 
@@ -124,3 +127,17 @@ unknown-lost-whole = refl
 -- of a method that isn't there no variable is made
 no-method-made : first_six (effect_of lost_name 9 lost_block).made ≡ false ∷ false ∷ false ∷ false ∷ false ∷ false ∷ []
 no-method-made = refl
+
+-- ---------- the order of parts ----------
+-- where the parts of a method end, in the order in which they are looked at
+abbrev ends_in : Tables → ℕ → List ℕ
+ends_in u m = map (λ e. e.at.end) (entries (context (code_of u) (routine_at u m)) (routine_at u m).code (first_live (routine_at u m)))
+
+abbrev sorted : List ℕ → Bool
+sorted [] = true
+sorted (x ∷ []) = true
+sorted (x ∷ y ∷ ys) = nat_le x y && sorted (y ∷ ys)
+
+-- of `Run`: four statements, the head of the par, one statement in each of its blocks, and what comes behind it
+ends-in-order : sorted (ends_in (unit p4) 1) ≡ true
+ends-in-order = refl

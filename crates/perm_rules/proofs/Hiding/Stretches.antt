@@ -93,7 +93,7 @@ places-parts inner is js at e = those-parts (places_with inner is) (places_with 
 
 -- ---------- one statement before others ----------
 -- the entries of a code before a rest are its own, and then those of the rest
-abbrev Splits : Context → (Code → Code) → Vars → Type 0
+abbrev pub Splits : Context → (Code → Code) → Vars → Type 0
 Splits c f G = (K : Vars) × ((rest : Code) → entries c (f rest) G ≡ entries c (f End) G ++ entries c rest K)
 
 one-block : (x : Entry) (xs ys : List Entry) → x ∷ (xs ++ ys) ≡ (x ∷ (xs ++ [])) ++ ys
@@ -144,6 +144,13 @@ module _ (k : Setting) (c : Context) (codes : List (Code → Code)) (s : Stmt) (
   kind-splits (WhileStmt e a) = while-splits c s.head (term_at k e) (own_vars k a.stmts) (sequence codes a.stmts End) G
   kind-splits (ParStmt a b) = par-splits c s.head (own_vars k a.stmts) (sequence codes a.stmts End) (own_vars k b.stmts) (sequence codes b.stmts End) G
 
+-- so it is of the statement at a place
+pub stmt-splits : (k : Setting) (placed : IsPlaced k.tables.program) (c : Context) (i : ℕ) (s : Stmt) (G : Vars) → slice_get k.tables.program.stmts i ≡ Some s → Splits c (stmt_code k i) G
+stmt-splits k placed c i s G here = go (kind-splits k c (codes_of k) s G s.kind)
+  where
+    go : Splits c (kind_code k (codes_of k) s s.kind) G → Splits c (stmt_code k i) G
+    go (K, same) = (K, λ rest. ap (λ a. entries c a G) (stmt_code-is k i s rest placed here) ∙ (same rest ∙ ap (λ a. entries c a G ++ entries c rest K) (sym (stmt_code-is k i s End placed here))))
+
 -- ---------- the statements of a program ----------
 module _ (k : Setting) (top : Context) (placed : IsPlaced k.tables.program)
     (one : (i j : ℕ) (s t : Stmt) (x : ℕ) → slice_get k.tables.program.stmts i ≡ Some s → slice_get k.tables.program.stmts j ≡ Some t → those (inner_places s) x ≡ true → those (inner_places t) x ≡ true → i ≡ j) where
@@ -163,12 +170,6 @@ module _ (k : Setting) (top : Context) (placed : IsPlaced k.tables.program)
   -- the entries of the statement at a place stand among some
   abbrev pub StandsIn : ℕ → List Entry → Type 0
   StandsIn at all = HasStretch (hiding (hidden at) top) (stmt_code k at End) all
-
-  stmt-splits : (c : Context) (i : ℕ) (s : Stmt) (G : Vars) → slice_get stmts i ≡ Some s → Splits c (stmt_code k i) G
-  stmt-splits c i s G here = go (kind-splits k c (codes_of k) s G s.kind)
-    where
-      go : Splits c (kind_code k (codes_of k) s s.kind) G → Splits c (stmt_code k i) G
-      go (K, same) = (K, λ rest. ap (λ a. entries c a G) (stmt_code-is k i s rest placed here) ∙ (same rest ∙ ap (λ a. entries c a G ++ entries c rest K) (sym (stmt_code-is k i s End placed here))))
 
   -- so it is of each statement within another one
   abbrev StmtHolds : ℕ → Type 0
@@ -192,7 +193,7 @@ module _ (k : Setting) (top : Context) (placed : IsPlaced k.tables.program)
 
       go : (s : Stmt) × (slice_get stmts i ≡ Some s) → ((K : Vars) → those (places_with within is) at ≡ true → StandsIn at (entries (hiding H top) (block_code k is last) K))
           → StandsIn at (entries (hiding H top) (block_code k (i ∷ is) last) G)
-      go (s, here) later = on (stmt-splits (hiding H top) i s G here)
+      go (s, here) later = on (stmt-splits k placed (hiding H top) i s G here)
         where
           on : Splits (hiding H top) (stmt_code k i) G → StandsIn at (entries (hiding H top) (block_code k (i ∷ is) last) G)
           on (K, splits) = first (or_cases (nat_eq at i) (those (get_or within i [] ++ places_with within is) at) e)
