@@ -11,4 +11,5 @@ pub mod Hiding
 pub mod Pars
 pub mod Modes
 pub mod PartOrder
+pub mod BodyFlows
 mod Examples

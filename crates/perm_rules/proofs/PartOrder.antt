@@ -112,7 +112,7 @@ module _ (k : Setting) (placed : IsPlaced k.tables.program) where
       go (s, here) later = on (stmt-splits k placed c i s G here)
         where
           on : Splits c (stmt_code k i) G → IsRising lo (ends_of (entries c (block_code k (i ∷ is) last) G) ++ behind)
-          on (K, splits) =
+          on (K, left, splits) =
               subst (λ xs. IsRising lo (ends_of xs ++ behind)) (sym (splits (block_code k is last)))
               (subst (IsRising lo) (sym (ends-append (entries c (stmt_code k i End) G) (entries c (block_code k is last) K) behind))
               (all i below.0 c G lo (block_marks ms is rest) (ends_of (entries c (block_code k is last) K) ++ behind) (later K) rise))

@@ -140,3 +140,18 @@ flow_unless (Some e) H = Err e
 -- the live set after the statement at a place, or the first refusal within it
 abbrev pub flow_of : Tables → ℕ → ℕ → Vars → Result Vars TypeError
 flow_of u m at G = flow_unless (stmt_refusal u m at G) (changed (effect (stmt_code_at u m at)) G)
+
+-- on from the live set, unless something is refused
+abbrev pub flow_then : Result Vars TypeError → (Vars → Result Vars TypeError) → Result Vars TypeError
+flow_then (Ok H) next = next H
+flow_then (Err e) next = Err e
+
+-- the live set after some statements, one behind the other, or the first refusal within them
+abbrev pub flows_of : Tables → ℕ → List ℕ → Vars → Result Vars TypeError
+flows_of u m [] G = Ok G
+flows_of u m (i ∷ is) G = flow_then (flow_of u m i G) (λ H. flows_of u m is H)
+
+-- the refusal, or else that of what comes last
+abbrev pub refusal_then : Result Vars TypeError → (Vars → Option TypeError) → Option TypeError
+refusal_then (Ok H) last = last H
+refusal_then (Err e) last = Some e

@@ -1,8 +1,9 @@
 -- What the laws of the typing rules claim.
 use Rattle.std.specs.Prelude.{◌≡◌, ◌↔◌, ℕ, false, ◌&&◌, cond, List, ◌++◌, map, length, None, Some, Ok, is_none, slice_get}
 use Rattle.perm_tree.specs.declared.ast.Block.{Block}
-use Rattle.perm_tree.specs.Code.{Code, Routine, UnitCode}
-use Rattle.perm_tree.specs.CodeOf.{code_of}
+use Rattle.perm_tree.specs.declared.ast.Method.{Method}
+use Rattle.perm_tree.specs.Code.{Code, Return, Routine, UnitCode}
+use Rattle.perm_tree.specs.CodeOf.{argument, code_of}
 use Rattle.perm_tree.specs.Resolves.{IsResolved}
 use Rattle.perm_tree.specs.TextOrder.{ends, IsRising}
 use Rattle.perm_tree.specs.UnitTables.{Tables}
@@ -11,9 +12,9 @@ use Rattle.perm_rules.specs.Parts.{Context, type_of}
 use Rattle.perm_rules.specs.Effects.{effect, changed}
 use Rattle.perm_rules.specs.Goes.{Goes, IsAccepted, context, first_live}
 use Rattle.perm_rules.specs.Sharing.{AllSharePlainly}
-use Rattle.perm_rules.specs.FirstRefused.{Entry, entries, first_refused, unit_refusal}
-use Rattle.perm_rules.specs.InBody.{IsStmtOf, AreParOf}
-use Rattle.perm_rules.specs.AtPlace.{vars_at, context_at, whole_effect_of, effect_of, par_mode_of, plain_mode_of, stmt_code_at, StmtGoes, flow_of}
+use Rattle.perm_rules.specs.FirstRefused.{Entry, entries, first_refused, method_refusal, unit_refusal}
+use Rattle.perm_rules.specs.InBody.{method_at, IsStmtOf, AreParOf}
+use Rattle.perm_rules.specs.AtPlace.{vars_at, setting_at, context_at, whole_effect_of, effect_of, par_mode_of, plain_mode_of, stmt_code_at, StmtGoes, flow_of, flows_of, refusal_then}
 
 -- a code that goes from a live set goes to that without what its effect loses, with what it makes
 abbrev pub GoesByEffect : Type 0
@@ -66,6 +67,11 @@ RefusedByKnown = (c : Context) (a : Code) (G H : Vars) → AgreeOnKnown c G H �
 -- in each par of a unit, what the blocks declare is no reason to refuse it
 abbrev pub PlainlyShared : Type 0
 PlainlyShared = (u : Tables) (m : ℕ) (r : Routine) → IsResolved u → slice_get (code_of u).routines m ≡ Some r → AllSharePlainly (context (code_of u) r) r.code
+
+-- the first refused part of a method of a unit is that of the statements of its body, one behind the other, or else its `return`
+abbrev pub RefusedByBody : Type 0
+RefusedByBody = (u : Tables) (m : ℕ) (r : Routine) (d : Method) → IsResolved u → slice_get (code_of u).routines m ≡ Some r → method_at u m ≡ Some d
+    → method_refusal (code_of u) r ≡ refusal_then (flows_of u m d.body.stmts (first_live r)) (λ H. first_refused (context (code_of u) r) (Return d.span (argument (setting_at u m) d.back)) H)
 
 -- the mode of the blocks of a par of a unit, or why they may not be side by side, is told by what they assign and consume alone
 abbrev pub ModeByWrites : Type 0

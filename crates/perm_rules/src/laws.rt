@@ -1,6 +1,6 @@
 //! Laws of the typing rules. A law does nothing: its contract is the claim.
 
-ghost use Rattle.perm_rules.specs.Laws.{GoesByEffect, LosesOrMakes, GoesFromMore, ChangesKnown, GoesUnrefused, AcceptedUnrefused, FlowGoes, PlainlyShared, RefusedByKnown, PlaceContext, ModeByWrites, PartsInOrder};
+ghost use Rattle.perm_rules.specs.Laws.{GoesByEffect, LosesOrMakes, GoesFromMore, ChangesKnown, GoesUnrefused, AcceptedUnrefused, FlowGoes, PlainlyShared, RefusedByKnown, PlaceContext, ModeByWrites, PartsInOrder, RefusedByBody};
 
 /// What goes is told by effects, and a larger live set stays larger; the effect of a block is told by the variables of its method alone.
 pub fn effects()
@@ -26,7 +26,8 @@ pub fn pars()
 
 /// What is told of a statement by its place is what is told of it within its method.
 pub fn places()
-    ensures { PlaceContext }
+    ensures context { PlaceContext }
+    ensures body { RefusedByBody }
 {}
 
 /// The parts of a method stand in text order, so that the first refused one is the first in the text too.

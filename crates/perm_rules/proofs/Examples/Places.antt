@@ -13,7 +13,7 @@ use Rattle.perm_tree.proofs.Programs.{unit, p1, p6}
 use Rattle.perm_tree.proofs.ParPrograms.{p4, p4_both, p11, p11_shared}
 use Rattle.perm_rules.specs.declared.ParMode.{ParMode}
 use Rattle.perm_rules.specs.declared.ParMode.TheVariants.{Symmetric, LeftAlone}
-use Rattle.perm_rules.specs.AtPlace.{routine_at, flow_of, par_mode_of, plain_mode_of, uses_of, sets_of, effect_of, whole_effect_of}
+use Rattle.perm_rules.specs.AtPlace.{routine_at, flow_of, flows_of, par_mode_of, plain_mode_of, uses_of, sets_of, effect_of, whole_effect_of}
 use Rattle.perm_rules.specs.FirstRefused.{entries}
 use Rattle.perm_rules.specs.Goes.{context, first_live}
 use Rattle.perm_rules.specs.InBody.{body_places}
@@ -51,6 +51,17 @@ consumes = refl
 -- the same from a set without variable 2
 consumes-gone : flow (unit p6) 0 1 (below 2) ≡ StopsAt Gone
 consumes-gone = refl
+
+-- the statements of the body of `Run`, one behind the other: of p6 the recover block is refused, and p11 goes on with all its variables
+p6-body : flow_shown (flows_of (unit p6) 0 (0 ∷ 1 ∷ 4 ∷ []) (below 2)) ≡ StopsAt Hidden
+p6-body = refl
+
+p11-body : flow_shown (flows_of (unit p11) 0 (0 ∷ 1 ∷ 4 ∷ 5 ∷ []) (below 2)) ≡ GoesTo (true ∷ true ∷ true ∷ true ∷ false ∷ false ∷ [])
+p11-body = refl
+
+-- a place that isn't there changes nothing
+nowhere : flow_shown (flows_of (unit p11) 0 (99 ∷ []) (below 2)) ≡ GoesTo (true ∷ true ∷ false ∷ false ∷ false ∷ false ∷ [])
+nowhere = refl
 
 abbrev mode : Tables → ℕ → List ℕ → List ℕ → Result ParMode TypeKind
 mode u m a b = par_mode_of u m (record { stmts = a }) (record { stmts = b })

@@ -10,20 +10,22 @@ use Rattle.perm_tree.specs.declared.ast.Stmt.{Stmt}
 use Rattle.perm_tree.specs.declared.ast.StmtKind.{StmtKind}
 use Rattle.perm_tree.specs.declared.ast.StmtKind.TheVariants.{Declare as DeclareStmt, Assign as AssignStmt, SetField, SetItem, Call as CallStmt, Print as PrintStmt, If as IfStmt, While as WhileStmt, Par as ParStmt}
 use Rattle.perm_tree.specs.Blocks.{rhs_blocks, else_blocks, kind_blocks, block_places}
-use Rattle.perm_tree.specs.Code.{Term, Code, End, Give, If, While, Par, Recover}
-use Rattle.perm_tree.specs.CodeOf.{Setting, term_at, var_at, own_vars, tied_before, sequence, assignment, kind_code, codes_of, stmt_code, block_code}
+use Rattle.perm_tree.specs.Code.{Term, Instruction, Declare, Assign, LoadItem, TakeField, NewObject, NewArray, StoreField, StoreItem, Print, Code, End, Give, Do, If, While, Par, Recover}
+use Rattle.perm_tree.specs.CodeOf.{Setting, term_at, var_at, field_at, argument, call, read, own_vars, tied_before, sequence, assignment, kind_code, codes_of, stmt_code, block_code}
+use Rattle.perm_tree.specs.Lookup.{class_place}
 use Rattle.perm_tree.specs.Places.{AllBelow, ElseBelow, RhsPlaced, KindPlaced, IsPlaced}
 use Rattle.perm_tree.specs.Scopes.{else_stmts}
 use Rattle.perm_tree.specs.Vars.{Vars, those, minus}
 use Rattle.perm_tree.proofs.CodeLaws.{stmt_code-is}
 use Rattle.perm_rules.specs.AtPlace.{rhs_hides, hides_of, hidden_by}
-use Rattle.perm_rules.specs.Effects.{changed, block_effect, either, both}
+use Rattle.perm_rules.specs.Effects.{Effect, changed, no_effect, instruction_effect, then, effect, block_effect, either, both, repeated}
 use Rattle.perm_rules.specs.FirstRefused.{Entry, entry, entries}
 use Rattle.perm_rules.specs.Goes.{hiding}
 use Rattle.perm_rules.specs.InBody.{inner_places, places_with, all_within}
 use Rattle.perm_rules.specs.Laws.{HasStretch}
 use Rattle.perm_rules.specs.Pars.{par_head}
 use Rattle.perm_rules.specs.Parts.{Context, Condition, RecoverHead}
+use Rattle.perm_rules.proofs.SetLaws.{then-changed, lost-changed, empty-changed}
 use Rattle.perm_rules.proofs.Hiding.StandOnce.{those-left, those-right, those-parts}
 use Rattle.perm_rules.proofs.Hiding.Holders.{element-there, opened, within-at, hidden-by-holder}
 
@@ -92,9 +94,12 @@ pub places-parts : (inner : List (List ℕ)) (is js : List ℕ) (at : ℕ) → t
 places-parts inner is js at e = those-parts (places_with inner is) (places_with inner js) at (subst (λ xs. those xs at ≡ true) (places-append inner is js) e)
 
 -- ---------- one statement before others ----------
--- the entries of a code before a rest are its own, and then those of the rest
+-- the entries of a code before a rest are its own, and then those of the rest, which is entered with what the code leaves
 abbrev pub Splits : Context → (Code → Code) → Vars → Type 0
-Splits c f G = (K : Vars) × ((rest : Code) → entries c (f rest) G ≡ entries c (f End) G ++ entries c rest K)
+Splits c f G = (K : Vars) × (K ≡ changed (effect (f End)) G) × ((rest : Code) → entries c (f rest) G ≡ entries c (f End) G ++ entries c rest K)
+
+alone : (e : Effect) (G : Vars) → changed e G ≡ changed (then e no_effect) G
+alone e G = empty-changed (changed e G) ∙ then-changed e no_effect G
 
 one-block : (x : Entry) (xs ys : List Entry) → x ∷ (xs ++ ys) ≡ (x ∷ (xs ++ [])) ++ ys
 one-block x xs ys = ap (λ zs. x ∷ (zs ++ ys)) (sym (append-nil xs))
@@ -102,44 +107,47 @@ one-block x xs ys = ap (λ zs. x ∷ (zs ++ ys)) (sym (append-nil xs))
 two-blocks : (x : Entry) (xs ys zs : List Entry) → x ∷ (xs ++ (ys ++ zs)) ≡ (x ∷ (xs ++ (ys ++ []))) ++ zs
 two-blocks x xs ys zs = ap (λ vs. x ∷ vs) (ap (λ vs. xs ++ (vs ++ zs)) (sym (append-nil ys)) ∙ sym (append_assoc xs (ys ++ []) zs))
 
+do-splits : (c : Context) (at : Span) (i : Instruction) (G : Vars) → Splits c (Do at i) G
+do-splits c at i G = (changed (instruction_effect i) G, alone (instruction_effect i) G, λ rest. refl)
+
 if-splits : (c : Context) (at : Span) (e : Term) (own1 : List ℕ) (a : Code) (own2 : List ℕ) (b : Code) (G : Vars) → Splits c (If at e own1 a own2 b) G
 if-splits c at e own1 a own2 b G =
     let K : Vars = changed (either (block_effect own1 a) (block_effect own2 b)) G in
-    (K, λ rest. two-blocks (entry c at (Condition e) G) (entries c a G) (entries c b G) (entries c rest K))
+    (K, alone (either (block_effect own1 a) (block_effect own2 b)) G, λ rest. two-blocks (entry c at (Condition e) G) (entries c a G) (entries c b G) (entries c rest K))
 
 par-splits : (c : Context) (at : Span) (own1 : List ℕ) (a : Code) (own2 : List ℕ) (b : Code) (G : Vars) → Splits c (Par at own1 a own2 b) G
 par-splits c at own1 a own2 b G =
     let K : Vars = changed (both (block_effect own1 a) (block_effect own2 b)) G in
-    (K, λ rest. two-blocks (entry c at (par_head c own1 a own2 b) G) (entries c a G) (entries c b G) (entries c rest K))
+    (K, alone (both (block_effect own1 a) (block_effect own2 b)) G, λ rest. two-blocks (entry c at (par_head c own1 a own2 b) G) (entries c a G) (entries c b G) (entries c rest K))
 
 while-splits : (c : Context) (at : Span) (e : Term) (own : List ℕ) (body : Code) (G : Vars) → Splits c (While at e own body) G
 while-splits c at e own body G =
     let K : Vars = minus G (block_effect own body).lost in
-    (K, λ rest. one-block (entry c at (Condition e) K) (entries c body K) (entries c rest K))
+    (K, lost-changed (block_effect own body).lost G ∙ alone (repeated (block_effect own body)) G, λ rest. one-block (entry c at (Condition e) K) (entries c body K) (entries c rest K))
 
 recover-splits : (c : Context) (at : Span) (x : ℕ) (own hides : List ℕ) (body : Code) (G : Vars) → Splits c (Recover at x own hides body) G
 recover-splits c at x own hides body G =
     let K : Vars = changed (block_effect own body) G in
-    (K, λ rest. one-block (entry c at (RecoverHead x) G) (entries (hiding hides c) body G) (entries c rest K))
+    (K, alone (block_effect own body) G, λ rest. one-block (entry c at (RecoverHead x) G) (entries (hiding hides c) body G) (entries c rest K))
 
 module _ (k : Setting) (c : Context) (codes : List (Code → Code)) (s : Stmt) (G : Vars) where
   assignment-splits : (x : ℕ) (r : Rhs) → Splits c (assignment k codes s x r) G
-  assignment-splits x (Value a) = (_, λ rest. refl)
-  assignment-splits x (Field y f) = (_, λ rest. refl)
-  assignment-splits x (TakeRhs y f) = (_, λ rest. refl)
-  assignment-splits x (Item y e) = (_, λ rest. refl)
-  assignment-splits x (New n) = (_, λ rest. refl)
-  assignment-splits x (NewArrayRhs e) = (_, λ rest. refl)
-  assignment-splits x (CallRhs m) = (_, λ rest. refl)
+  assignment-splits x (Value a) = do-splits c s.span (Assign x (argument k a)) G
+  assignment-splits x (Field y f) = do-splits c s.span (read k x y f) G
+  assignment-splits x (TakeRhs y f) = do-splits c s.span (TakeField x (var_at k y) (field_at k y f)) G
+  assignment-splits x (Item y e) = do-splits c s.span (LoadItem x (var_at k y) (term_at k e)) G
+  assignment-splits x (New n) = do-splits c s.span (NewObject x (class_place k.tables.program n.name)) G
+  assignment-splits x (NewArrayRhs e) = do-splits c s.span (NewArray x (term_at k e)) G
+  assignment-splits x (CallRhs m) = do-splits c s.span (call k (Some x) m) G
   assignment-splits x (RecoverRhs b w give) = recover-splits c s.head x (own_vars k b.stmts) (tied_before s.head.end 0 k.vars) (sequence codes b.stmts (Give give (var_at k w) x)) G
 
   kind-splits : (kind : StmtKind) → Splits c (kind_code k codes s kind) G
-  kind-splits (DeclareStmt t x) = (_, λ rest. refl)
+  kind-splits (DeclareStmt t x) = do-splits c s.span (Declare (var_at k x)) G
   kind-splits (AssignStmt t x r) = assignment-splits (var_at k x) r
-  kind-splits (SetField y f a) = (_, λ rest. refl)
-  kind-splits (SetItem y i e) = (_, λ rest. refl)
-  kind-splits (CallStmt m) = (_, λ rest. refl)
-  kind-splits (PrintStmt e) = (_, λ rest. refl)
+  kind-splits (SetField y f a) = do-splits c s.span (StoreField (var_at k y) (field_at k y f) (argument k a)) G
+  kind-splits (SetItem y i e) = do-splits c s.span (StoreItem (var_at k y) (term_at k i) (term_at k e)) G
+  kind-splits (CallStmt m) = do-splits c s.span (call k None m) G
+  kind-splits (PrintStmt e) = do-splits c s.span (Print (term_at k e)) G
   kind-splits (IfStmt e a b) = if-splits c s.head (term_at k e) (own_vars k a.stmts) (sequence codes a.stmts End) (own_vars k (else_stmts b)) (sequence codes (else_stmts b) End) G
   kind-splits (WhileStmt e a) = while-splits c s.head (term_at k e) (own_vars k a.stmts) (sequence codes a.stmts End) G
   kind-splits (ParStmt a b) = par-splits c s.head (own_vars k a.stmts) (sequence codes a.stmts End) (own_vars k b.stmts) (sequence codes b.stmts End) G
@@ -149,7 +157,7 @@ pub stmt-splits : (k : Setting) (placed : IsPlaced k.tables.program) (c : Contex
 stmt-splits k placed c i s G here = go (kind-splits k c (codes_of k) s G s.kind)
   where
     go : Splits c (kind_code k (codes_of k) s s.kind) G → Splits c (stmt_code k i) G
-    go (K, same) = (K, λ rest. ap (λ a. entries c a G) (stmt_code-is k i s rest placed here) ∙ (same rest ∙ ap (λ a. entries c a G ++ entries c rest K) (sym (stmt_code-is k i s End placed here))))
+    go (K, left, same) = (K, left ∙ ap (λ a. changed (effect a) G) (sym (stmt_code-is k i s End placed here)), λ rest. ap (λ a. entries c a G) (stmt_code-is k i s rest placed here) ∙ (same rest ∙ ap (λ a. entries c a G ++ entries c rest K) (sym (stmt_code-is k i s End placed here))))
 
 -- ---------- the statements of a program ----------
 module _ (k : Setting) (top : Context) (placed : IsPlaced k.tables.program)
@@ -196,7 +204,7 @@ module _ (k : Setting) (top : Context) (placed : IsPlaced k.tables.program)
       go (s, here) later = on (stmt-splits k placed (hiding H top) i s G here)
         where
           on : Splits (hiding H top) (stmt_code k i) G → StandsIn at (entries (hiding H top) (block_code k (i ∷ is) last) G)
-          on (K, splits) = first (or_cases (nat_eq at i) (those (get_or within i [] ++ places_with within is) at) e)
+          on (K, left, splits) = first (or_cases (nat_eq at i) (those (get_or within i [] ++ places_with within is) at) e)
             where
               front : List Entry
               front = entries (hiding H top) (stmt_code k i End) G
