@@ -5,16 +5,21 @@ use Rattle.std.proofs.Math.ListN.{get_or-append}
 use Rattle.std.proofs.lemmas.List.{map-append}
 use Rattle.perm_tree.specs.declared.ast.Block.{Block}
 use Rattle.perm_tree.specs.declared.ast.FieldDecl.{FieldDecl}
+use Rattle.perm_tree.specs.declared.ast.Method.{Method}
 use Rattle.perm_tree.specs.declared.ast.Rhs.{Rhs}
 use Rattle.perm_tree.specs.declared.ast.Rhs.TheVariants.{Value, Field, TakeField as TakeRhs, Item, New, NewArray as NewArrayRhs, Call as CallRhs, Recover as RecoverRhs}
 use Rattle.perm_tree.specs.declared.ast.Stmt.{Stmt}
 use Rattle.perm_tree.specs.declared.ast.StmtKind.{StmtKind}
 use Rattle.perm_tree.specs.declared.ast.StmtKind.TheVariants.{Declare as DeclareStmt, Assign as AssignStmt, SetField, SetItem, Call as CallStmt, Print as PrintStmt, If as IfStmt, While as WhileStmt, Par as ParStmt}
+use Rattle.perm_tree.specs.declared.unit.MethodTable.{MethodTable}
 use Rattle.perm_tree.specs.Code.{Code, End, Give, Return, Routine}
 use Rattle.perm_tree.specs.CodeOf.{Setting, setting, argument, var_at, assignment, kind_code, codes_of, stmt_code, block_code, routine, code_of}
+use Rattle.perm_tree.specs.Lookup.{method_of}
 use Rattle.perm_tree.specs.Places.{AllBelow, RhsPlaced, KindPlaced, IsPlaced}
+use Rattle.perm_tree.specs.Resolves.{IsResolved}
 use Rattle.perm_tree.specs.Scopes.{else_stmts}
 use Rattle.perm_tree.specs.TextOrder.{Mark, names, ends, IsRising, Marks, all_expr_marks, marks_at, arg_marks, block_marks, rhs_marks, kind_marks, stmt_marks, all_stmt_marks, params_marks}
+use Rattle.perm_tree.specs.UnitTables.{Tables}
 use Rattle.perm_tree.specs.Vars.{Vars}
 use Rattle.perm_tree.proofs.CodeLaws.{stmt_code-is}
 use Rattle.perm_tree.proofs.Entries.{entries_of-at}
@@ -64,14 +69,14 @@ kind-marked es before after exprs at head (ParStmt a b) rest count placed =
     ∙ ap (block_marks before a.stmts) (marks-front before after at b.stmts rest count placed.1))
 
 -- where the parts end
-abbrev ends_of : List Entry → List Mark
+abbrev pub ends_of : List Entry → List Mark
 ends_of es = map (λ e. ends e.at.end) es
 
 ends-append : (xs ys : List Entry) (ms : List Mark) → ends_of (xs ++ ys) ++ ms ≡ ends_of xs ++ (ends_of ys ++ ms)
 ends-append xs ys ms = ap (λ ks. ks ++ ms) (map-append (λ (e : Entry). ends e.at.end) xs ys) ∙ append_assoc (ends_of xs) (ends_of ys) ms
 
 -- marks rise wherever others do
-abbrev Follow : List Mark → List Mark → Type 0
+abbrev pub Follow : List Mark → List Mark → Type 0
 Follow rest behind = (hi : ℕ) → IsRising hi rest → IsRising hi behind
 
 -- ---------- statements ----------
@@ -188,17 +193,29 @@ params-pass : (fs : List FieldDecl) → Passes (params_marks fs)
 params-pass [] lo rest rise = rise
 params-pass (f ∷ fs) lo rest rise = params-pass fs lo rest (past-name f.name lo (params_marks fs rest) rise)
 
+-- where the marks of a method and others behind them rise, so do the ends of its parts and what follows the others: so lists of methods may be walked one behind the other
+pub method-ordered : (u : Tables) (t : MethodTable) (d : Method) → IsResolved u → method_of u.program t ≡ Some d → (lo : ℕ) (rest behind : List Mark) → Follow rest behind
+    → IsRising lo (names d.name ∷ params_marks d.params (block_marks (all_stmt_marks u.program.exprs u.program.stmts) d.body.stmts (arg_marks (all_expr_marks u.program.exprs) d.back (ends d.span.end ∷ rest))))
+    → IsRising lo (ends_of (entries (context (code_of u) (routine u t d)) (routine u t d).code (first_live (routine u t d))) ++ behind)
+method-ordered u t d is there lo rest behind follow rise =
+    body-ordered (setting u t.vars) is.formed.placed d.body.stmts (IsResolved-method u t d is there).0.0 (Return d.span (argument (setting u t.vars) d.back)) (context (code_of u) (routine u t d)) (first_live (routine u t d)) lo back behind
+    (λ K hi q. let last = arg-passes exprs (exprs-pass [] u.program.exprs tt) d.back hi (ends d.span.end ∷ rest) q in (last.0, follow d.span.end last.1))
+    (params-pass d.params lo (block_marks marks d.body.stmts back) (past-name d.name lo (params_marks d.params (block_marks marks d.body.stmts back)) rise))
+  where
+    marks : List Marks
+    marks = all_stmt_marks u.program.exprs u.program.stmts
+
+    exprs : List Marks
+    exprs = all_expr_marks u.program.exprs
+
+    back : List Mark
+    back = arg_marks exprs d.back (ends d.span.end ∷ rest)
+
 pub parts-in-order : PartsInOrder
 parts-in-order u m r is here = by-table (routine-table u u.tables m r (subst (AllMethods u.program) (sym is.tables) (tables_of-methods u.program)) here)
   where
     by-table : HasTable u u.tables m r → IsRising 0 (map (λ e. ends e.at.end) (entries (context (code_of u) r) r.code (first_live r)))
     by-table (t, d, there, table, same) =
-        let found = IsResolved-method u t d is table.0 in
-        let marks : List Marks = all_stmt_marks u.program.exprs u.program.stmts in
-        let exprs : List Marks = all_expr_marks u.program.exprs in
-        let back : List Mark = arg_marks exprs d.back (ends d.span.end ∷ []) in
-        let body : IsRising 0 (block_marks marks d.body.stmts back) = params-pass d.params 0 (block_marks marks d.body.stmts back) (past-name d.name 0 (params_marks d.params (block_marks marks d.body.stmts back)) found.1) in
         subst (λ (q : Routine). IsRising 0 (map (λ e. ends e.at.end) (entries (context (code_of u) q) q.code (first_live q)))) same
         (subst (IsRising 0) (append-nil (ends_of (entries (context (code_of u) (routine u t d)) (routine u t d).code (first_live (routine u t d)))))
-        (body-ordered (setting u t.vars) is.formed.placed d.body.stmts found.0.0 (Return d.span (argument (setting u t.vars) d.back)) (context (code_of u) (routine u t d)) (first_live (routine u t d)) 0 back []
-        (λ K hi rise. arg-passes exprs (exprs-pass [] u.program.exprs tt) d.back hi (ends d.span.end ∷ []) rise) body))
+        (method-ordered u t d is table.0 0 [] [] (λ hi q. q) (IsResolved-method u t d is table.0).1))
