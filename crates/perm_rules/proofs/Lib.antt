@@ -12,4 +12,5 @@ pub mod Pars
 pub mod Modes
 pub mod PartOrder
 pub mod BodyFlows
+pub mod MethodsAtPlace
 mod Examples

@@ -1,10 +1,13 @@
 -- Statements and blocks named by their places, by computation.
-use Rattle.std.specs.Prelude.{◌≡◌, ℕ, Bool, true, false, ◌&&◌, nat_le, List, [], ◌∷◌, map, Option, Some, None, slice_get, refl, Result, Ok, Err}
+use Rattle.std.specs.Prelude.{◌≡◌, ℕ, Bool, true, false, ◌&&◌, nat_le, List, [], ◌∷◌, ◌++◌, map, Option, Some, None, slice_get, refl, Result, Ok, Err}
 use Rattle.perm_tree.specs.declared.ast.Block.{Block}
 use Rattle.perm_tree.specs.declared.ast.Stmt.{Stmt}
+use Rattle.perm_tree.specs.declared.ast.Ty.TheVariants.{Long}
 use Rattle.perm_tree.specs.declared.errors.TypeKind.{TypeKind}
 use Rattle.perm_tree.specs.declared.errors.TypeKind.TheVariants.{Gone, Hidden, ParShared, ParPermission}
 use Rattle.perm_tree.specs.declared.errors.TypeError.{TypeError}
+use Rattle.perm_tree.specs.declared.unit.MethodTable.{MethodTable}
+use Rattle.perm_tree.specs.declared.unit.VarInfo.{VarInfo}
 use Rattle.perm_tree.specs.CodeOf.{code_of}
 use Rattle.perm_tree.specs.UnitTables.{Tables}
 use Rattle.perm_tree.specs.Vars.{Vars, below}
@@ -134,6 +137,25 @@ unknown-lost = refl
 -- the whole effect loses the number past the last, which is no variable
 unknown-lost-whole : first_six (whole_effect_of lost_name 4 lost_block).lost ≡ false ∷ false ∷ false ∷ false ∷ false ∷ true ∷ []
 unknown-lost-whole = refl
+
+-- a method with 256 variables, none of which has a name of the program
+abbrev doubled : List VarInfo → List VarInfo
+doubled vs = vs ++ vs
+
+abbrev many : List VarInfo
+many =
+    doubled (doubled (doubled (doubled (doubled (doubled (doubled (doubled (
+    record { name = 1000; ty = Long; declared = record { start = 0; end = 0 }; scope = record { start = 0; end = 0 } } ∷ []))))))))
+
+abbrev filled : Tables
+filled = record lost_name { tables = map (λ (t : MethodTable). record t { vars = many }) lost_name.tables }
+
+-- whole it makes the number 256, which no set of variables holds
+full-whole : ((whole_effect_of filled 4 lost_block).lost 256 ∷ (whole_effect_of filled 4 lost_block).made 256 ∷ []) ≡ false ∷ true ∷ []
+full-whole = refl
+
+full-known : ((effect_of filled 4 lost_block).lost 256 ∷ (effect_of filled 4 lost_block).made 256 ∷ []) ≡ false ∷ false ∷ []
+full-known = refl
 
 -- of a method that isn't there no variable is made
 no-method-made : first_six (effect_of lost_name 9 lost_block).made ≡ false ∷ false ∷ false ∷ false ∷ false ∷ false ∷ []
