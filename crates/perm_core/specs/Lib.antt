@@ -9,4 +9,4 @@ pub mod NextPicture
 pub mod Bag
 pub mod Pieces
 pub mod Claims
-pub mod Unproved
+pub mod Serial

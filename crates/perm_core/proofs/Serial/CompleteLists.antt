@@ -6,7 +6,7 @@ use Rattle.perm_meaning.specs.NamedHeap.{Heap, Final, State}
 use Rattle.perm_meaning.specs.Outcome.{RanFull, reported}
 use Rattle.perm_core.specs.Core.{told_of, core_outcome}
 use Rattle.perm_core.specs.Claims.{IsChecked}
-use Rattle.perm_core.specs.Unproved.{SomeRefused}
+use Rattle.perm_core.specs.Serial.{SomeRefused}
 use Rattle.perm_core.proofs.Serial.FreeRuns.{KeepsPictures, HasPicture, Complete, free-confluent, free-never-more}
 use Rattle.perm_core.proofs.Serial.Refusals.{EndsFull, lacking-ends, refused-lacks, some-refused-or-not, unrefused-runs-free, unrefused-runs-within, refused-list-exceeds}
 

@@ -4,7 +4,7 @@ use Rattle.std.specs.Prelude.{ℤ}
 use Rattle.perm_tree.specs.Code.{Routine, UnitCode}
 use Rattle.perm_meaning.specs.Outcome.{RanStuck, outcome}
 use Rattle.perm_core.specs.Claims.{IsChecked, Opens}
-use Rattle.perm_core.specs.Unproved.{EndsLeftThenRight, RefusedWhereFull}
+use Rattle.perm_core.specs.Serial.{EndsLeftThenRight, RefusedWhereFull, NeverStuck}
 use Rattle.perm_core.proofs.KeepsPicture.PictureEvents.{keeps-picture}
 use Rattle.perm_core.proofs.LivelyRuns.{picture-comes, picture-fills}
 use Rattle.perm_core.proofs.Serial.FreeRuns.{KeepsPictures}
@@ -28,5 +28,5 @@ module _ (u : UnitCode) (limit : ℕ) (input : List ℤ) (turns : ℕ) where
   refused-where-room-lacks = all-refused-where-full u limit input turns keeps-pictures goes-left-first
 
   -- the meaning of a checked unit isn't stuck
-  pub never-stuck : (r : Routine) → IsChecked u → Opens u limit input r → outcome u input turns limit ≢ RanStuck
+  pub never-stuck : NeverStuck u limit input turns
   never-stuck r checked opens = meaning-unstuck u checked keeps-pictures limit input turns r opens (goes-so u limit input turns keeps-pictures goes-left-first)

@@ -10,7 +10,7 @@ use Rattle.perm_meaning.specs.Steps.{Answer, Found, Refused, Missing, runs, with
 use Rattle.perm_meaning.proofs.Leads.{none_some, then_some, then_at}
 use Rattle.perm_core.specs.Core.{core, look, step, core_outcome}
 use Rattle.perm_core.specs.Claims.{IsChecked, Opens}
-use Rattle.perm_core.specs.Unproved.{EndsLeftThenRight, RefusedWhereFull}
+use Rattle.perm_core.specs.Serial.{EndsLeftThenRight, RefusedWhereFull}
 use Rattle.perm_core.proofs.Serial.Needs.{runs-append}
 use Rattle.perm_core.proofs.Serial.FreeRuns.{KeepsPictures, HasPicture, Complete, pictured-next, completed}
 use Rattle.perm_core.proofs.Serial.Refusals.{LacksRoom, lacking-ends, refusal-lacks, runs-lack}

@@ -12,7 +12,7 @@ use Rattle.perm_meaning.specs.Steps.{Found, Refused, runs, within, answered, ask
 use Rattle.perm_meaning.proofs.Leads.{some_inj, none_some, then_some, then_at}
 use Rattle.perm_core.specs.Core.{core, look, step}
 use Rattle.perm_core.specs.Claims.{Refuses, refused}
-use Rattle.perm_core.specs.Unproved.{SomeRefused}
+use Rattle.perm_core.specs.Serial.{SomeRefused}
 use Rattle.perm_core.proofs.Serial.FreeSteps.{free_step, happened, refused-or-not, unrefused-free, refused-exceeds, unrefused-within}
 
 -- ---------- want of room ----------

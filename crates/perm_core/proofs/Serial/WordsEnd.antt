@@ -21,6 +21,7 @@ use Rattle.perm_meaning.proofs.OnWords.WordsRun.{told_alike, told_heap}
 use Rattle.perm_core.specs.Core.{step, told_of}
 use Rattle.perm_core.specs.WordCore as word_core
 use Rattle.perm_core.specs.Claims.{IsChecked, OpensOnWords}
+use Rattle.perm_core.specs.Serial.{TellsOnWords, IsToldOnWords, WordsEndLeftThenRight}
 use Rattle.perm_core.proofs.KeepsPicture.PictureEvents.{keeps-picture}
 use Rattle.perm_core.proofs.WordsShown.{words_do_no_more}
 use Rattle.perm_core.proofs.Serial.Needs.{runs-append}
@@ -76,20 +77,7 @@ module _ (u : UnitCode) (limit : ℕ) (input : List ℤ) (turns : ℕ) (r : Rout
   shows-start = record { events = []; state = start; run = refl; bases = opening_bases u input opens.numbers; grown = λ n i e. e; shown = opening_shown u input opens.numbers limit turns r opens.opens.fits opens.bases }
 
   -- ---------- ends ----------
-  -- a report tells of a state on words that has ended so; its heap shows the objects of the report, and the object of Main has the base that it began with
-  pub record Tells (report : Report) (t : worded.State) (g : machines.Final ℕ) : Type 0 where
-    pub told : IsTold turns report g t.heap
-    pub bases : Bases
-    pub root : bases root_name ≡ Some (size (length input))
-    pub shown : HeapShown bases (record { objects = report.objects; given = report.need }) t.heap
-
-  -- what the meaning comes to is told of a state on words that has ended so
-  abbrev pub IsToldSo : Outcome → worded.State → machines.Final ℕ → Type 0
-  IsToldSo (Ran report) t g = Tells report t g
-  IsToldSo RanFull t g = told_end g ≡ Some HeapFull
-  IsToldSo RanStuck t g = ⊥
-
-  told-so : (o : Outcome) (s : State) (b : Bases) (t : worded.State) (f : Final) (g : machines.Final ℕ) → Grows (opening_bases u input opens.numbers) b → IsShownBy b s t → FinalR (IsWordOf b) f g → reported turns f s.heap ≡ o → (o ≡ RanStuck → ⊥) → IsToldSo o t g
+  told-so : (o : Outcome) (s : State) (b : Bases) (t : worded.State) (f : Final) (g : machines.Final ℕ) → Grows (opening_bases u input opens.numbers) b → IsShownBy b s t → FinalR (IsWordOf b) f g → reported turns f s.heap ≡ o → (o ≡ RanStuck → ⊥) → IsToldOnWords input turns o t g
   told-so (Ran report) s b t f g grown shown alike e unstuck = record {
     told = told_alike b turns f g s.heap t.heap report alike shown.heap.given e;
     bases = b;
@@ -99,9 +87,13 @@ module _ (u : UnitCode) (limit : ℕ) (input : List ℤ) (turns : ℕ) (r : Rout
   told-so RanFull s b t f g grown shown alike e unstuck = full-alike b f g (reported-so turns f s.heap e) alike
   told-so RanStuck s b t f g grown shown alike e unstuck = unstuck refl
 
-  pub words-end : (ws : List Way) (t : worded.State) (g : machines.Final ℕ) → word_core.runs u limit ws (worded.opening_state u input turns r) ≡ Some t → final t.task ≡ Some g → IsToldSo (outcome u input turns limit) t g
+  pub words-end : (ws : List Way) (t : worded.State) (g : machines.Final ℕ) → word_core.runs u limit ws (worded.opening_state u input turns r) ≡ Some t → final t.task ≡ Some g → IsToldOnWords input turns (outcome u input turns limit) t g
   words-end ws t g run over =
       let x = shows-runs ws (worded.opening_state u input turns r) t shows-start run in
       let y = end-back x.bases (final x.state.task) (final t.task) g (final_alike (IsWordOf x.bases) AnyMark x.state.task t.task x.shown.task) over in
       let told = every-list-ends u limit input turns r x.events x.state checked opens.opens x.run y.0 y.1 in
       told-so (outcome u input turns limit) x.state x.bases t y.0 g x.grown x.shown y.2 (some_inj (sym (ap (λ z. told_of turns x.state z) y.1) ∙ told)) (never-stuck u limit input turns r checked opens.opens)
+
+-- so on words too
+pub every-list-on-words : (u : UnitCode) (limit : ℕ) (input : List ℤ) (turns : ℕ) → WordsEndLeftThenRight u limit input turns
+every-list-on-words u limit input turns r ws t g checked opens run over = words-end u limit input turns r checked opens ws t g run over
