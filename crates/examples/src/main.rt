@@ -1,17 +1,20 @@
-//! Runs each program of the folder in which it is started, and tells whether what comes of it is what stands beside it: `NAME.perm` writes `NAME.out`, and ends with the status in `NAME.status`, or with 0 where there is no such file.
+//! Runs the programs of the folder in which it is started, and tells whether what comes of each is what stands beside it: `NAME.perm` writes `NAME.out`, and ends with the status in `NAME.status`, or with 0 where there is no such file. `cases.txt` has small texts with their answers.
 #![tactic(auto)]
 
 #[cfg(test)]
 mod tests;
 
-use perm_base::{FileShelf, MemSink};
+use perm_base::{FileShelf, MemFile, MemShelf, MemSink, Shelf};
 use perm_top::run_words;
-use std::alloc::AllocError;
+use std::alloc::{AllocError, Global};
 use std::rt::Files;
 use std::{fs, io};
 
 /// The most bytes that an example writes.
 const ROOM: u64 = 65_536;
+
+/// The path of a text that stands in memory.
+const PATH: &str = "case";
 
 fn main(rt: HostRuntime) -> io::Result<()> {
     let names = names(&rt)?;
@@ -23,7 +26,7 @@ fn main(rt: HostRuntime) -> io::Result<()> {
         };
         println!(rt; "{name}: {verdict}")?;
     }
-    Ok(())
+    run_cases(&rt)
 }
 
 /// The names of the programs, in order.
@@ -39,17 +42,30 @@ fn names(rt: &HostRuntime) -> io::Result<Vec<String>> {
     Ok(names)
 }
 
+/// What a program comes to.
+#[derive(Drop)]
+struct Answer {
+    status: u8,
+    text: Vec<u8>,
+}
+
+/// Runs the program under a path of a shelf.
+fn answer_of<S: Shelf>(alloc: Global, shelf: &mut S, path: &str) -> Result<Answer, AllocError> {
+    let mut sink = MemSink::new(alloc, ROOM, ROOM, Vec::new(alloc)).map_err(|_| AllocError)?;
+    let status = run_words(alloc, &[path], shelf, &mut sink).map_err(|_| AllocError)?;
+    Ok(Answer {
+        status,
+        text: sink.taken,
+    })
+}
+
 /// Whether a program writes what stands beside it, and ends with the status there.
 fn is_as_told(rt: &HostRuntime, name: &str) -> io::Result<bool> {
     let alloc = rt.alloc();
-    let mut sink = MemSink::new(alloc, ROOM, ROOM, Vec::new(alloc)).map_err(|_| AllocError)?;
     let program = format!(in alloc; "{name}.perm")?;
-    let mut shelf = FileShelf::new(rt);
-    let status = run_words(alloc, &[program.as_str()], &mut shelf, &mut sink).map_err(
-        |_| AllocError,
-    )?;
+    let answer = answer_of(alloc, &mut FileShelf::new(rt), program.as_str())?;
     let text = fs::read(rt, format!(in alloc; "{name}.out")?.as_str())?;
-    Ok(sink.taken.as_slice() == text.as_slice() && status == wanted_status(rt, name)?)
+    Ok(answer.text.as_slice() == text.as_slice() && answer.status == wanted_status(rt, name)?)
 }
 
 /// The status that stands beside a program.
@@ -59,4 +75,42 @@ fn wanted_status(rt: &HostRuntime, name: &str) -> io::Result<u8> {
         return Ok(0);
     };
     Ok(text.as_str().trim().parse::<u8>().unwrap_or(u8::MAX))
+}
+
+/// Runs the small texts, and tells how many there are and which aren't answered as told.
+fn run_cases(rt: &HostRuntime) -> io::Result<()> {
+    let alloc = rt.alloc();
+    let cases = fs::read_to_string(rt, "cases.txt")?;
+    let mut program = "";
+    let mut count = 0u32;
+    for line in cases.as_str().lines() {
+        let Some(wanted) = line.strip_prefix("-> ") else {
+            program = line;
+            continue;
+        };
+        let answer = answer_of(alloc, &mut shelf_with(alloc, program)?, PATH)?;
+        let text = String::from_utf8_lossy(alloc, answer.text.as_slice())?;
+        let told = format!(in alloc; "{} {}", answer.status, text.as_str().trim())?;
+        if told.as_str() != wanted {
+            println!(rt; "{program}: {told}")?;
+        }
+        count = count.saturating_add(1);
+    }
+    println!(rt; "{count} small texts are answered")?;
+    Ok(())
+}
+
+/// A shelf with one text.
+fn shelf_with(alloc: Global, text: &str) -> Result<MemShelf, AllocError> {
+    let mut files = Vec::new(alloc);
+    files.push(MemFile {
+        path: String::from_str(alloc, PATH)?,
+        bytes: text.as_bytes().to_vec(alloc)?,
+    })?;
+    Ok(MemShelf {
+        files,
+        fail: Vec::new(alloc),
+        calls: 0,
+        faults: 0,
+    })
 }

@@ -6,9 +6,6 @@ use perm_top::run_words;
 use std::alloc::{AllocError, Global};
 use std::test::Fail;
 
-const LIST: &str =
-    "class Cell {\n  long value;\n  writable Cell next;\n  long Total() readable {\n    long s = this.value;\n    readable Cell n = this.next;\n    if (n == null) {\n    } else {\n      long t = n.Total();\n      s = s + t;\n    }\n    return s;\n  }\n}\nclass Main {\n  immutable Cell list;\n  long Run(immutable long[] input) writable {\n    immutable Cell c = recover {\n      writable Cell head = null;\n      long i = 0;\n      long n = input.Length;\n      while (i < n) {\n        writable Cell k = new Cell();\n        long v = input[i];\n        k.value = v;\n        k.next = head;\n        head = k;\n        i = i + 1;\n      }\n      readable Cell r = head;\n      give r;\n    };\n    this.list = c;\n    long total = c.Total();\n    print total;\n    return total;\n  }\n}\n";
-
 const USAGE: &str =
     "usage: permrun [--check] [--workers N] [--turns N] [--heap N] [--dump] [--stats] (PROGRAM [INPUT] | --make SIZE [--from N])\n";
 
@@ -35,97 +32,10 @@ fn answer_of(alloc: Global, words: &[&str], shelf: &mut MemShelf) -> Result<Stri
     Ok(format!(in alloc; "{status}\n{text}")?)
 }
 
-#[test]
-fn a_straight_program_runs(rt: HostRuntime) -> Result<(), Fail> {
-    let mut shelf = shelf_with(rt.alloc(), POINT.as_bytes(), &[])?;
-    let answer = answer_of(rt.alloc(), &["p"], &mut shelf)?;
-    assert_eq!(rt; answer.as_str(), "0\n7\ndone 0\n");
-    Ok(())
-}
-
 /// What a program's text comes to: the status and the text of the answer.
 fn run_of(alloc: Global, text: &[u8]) -> Result<String, Fail> {
     let mut shelf = shelf_with(alloc, text, &[])?;
     answer_of(alloc, &["p"], &mut shelf)
-}
-
-#[test]
-fn refusals_stand_at_their_places(rt: HostRuntime) -> Result<(), Fail> {
-    let cases = [
-        ("", "12\ntable NoMain\n"),
-        ("class Main { @", "10\nlex BadByte 1:14\n"),
-        ("9223372036854775808", "10\nlex NumberTooLarge 1:1\n"),
-        ("class /* Main", "10\nlex UnclosedComment 1:7\n"),
-        ("class Main {", "11\nsyntax Unexpected 1:13\n"),
-        ("{}();=+", "11\nsyntax Unexpected 1:1\n"),
-        ("class A { } class A { }", "12\ntable DuplicateName 1:19\n"),
-        (
-            "class Main { isolated B b; }",
-            "12\ntable UnknownClass 1:23\n",
-        ),
-        ("class Main { }", "12\ntable NoMain\n"),
-        (
-            "class A { }\n\nclass\n A { }",
-            "12\ntable DuplicateName 4:2\n",
-        ),
-        (
-            "class Main { long Run() writable { return 0; } }",
-            "12\ntable BadMain 1:19\n",
-        ),
-        (LIST, "9\nunbuilt\n"),
-    ];
-    for (text, wanted) in cases {
-        let answer = run_of(rt.alloc(), text.as_bytes())?;
-        assert_eq!(rt; answer.as_str(), wanted, "of {text:?}");
-    }
-    Ok(())
-}
-
-#[test]
-fn the_first_refusal_of_names_is_told(rt: HostRuntime) -> Result<(), Fail> {
-    let cases = [
-        (
-            "class Main { long Run() writable { return 0; } } class Main { }",
-            "12\ntable DuplicateName 1:56\n",
-        ),
-        (
-            "class Main { isolated B x; long x; }",
-            "12\ntable UnknownClass 1:23\n",
-        ),
-        (
-            "class Main { long x; long x; isolated B y; }",
-            "12\ntable DuplicateName 1:27\n",
-        ),
-        (
-            "class A { long x; long x; long x; }",
-            "12\ntable DuplicateName 1:24\n",
-        ),
-        (
-            "class A { long m() readable { return 0; } long m; }",
-            "12\ntable DuplicateName 1:48\n",
-        ),
-        (
-            "class A { long x; } class B { long x; }",
-            "12\ntable NoMain\n",
-        ),
-        (
-            "class Main { long Run(immutable long[] x) writable { par { long y; } { long y; } return 0; } }",
-            "12\ntable DuplicateName 1:77\n",
-        ),
-        (
-            "class Main { long Run(immutable long[] x) readable { return 0; } }",
-            "12\ntable BadMain 1:19\n",
-        ),
-        (
-            "class Main { long Run(immutable long[] x) writable { x = new B(); return 0; } }",
-            "12\ntable UnknownClass 1:62\n",
-        ),
-    ];
-    for (text, wanted) in cases {
-        let answer = run_of(rt.alloc(), text.as_bytes())?;
-        assert_eq!(rt; answer.as_str(), wanted, "of {text:?}");
-    }
-    Ok(())
 }
 
 /// A text with so many parts that differ in a number of four digits.
