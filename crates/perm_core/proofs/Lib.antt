@@ -9,7 +9,3 @@ mod Examples
 pub mod Pieces
 pub mod Whole
 pub mod Commute
-pub mod SteadyCodes
-pub mod LeftRuns
-pub mod LivelyRuns
-pub mod StuckMeanings

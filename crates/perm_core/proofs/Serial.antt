@@ -10,6 +10,9 @@ pub mod LeftThenRight
 pub mod LeftFirst
 pub mod NumberReturned
 pub mod ToldEnds
-pub mod LeftFirstStops
 pub mod EveryRun
 pub mod WordsEnd
+pub mod SteadyCodes
+pub mod LeftRuns
+pub mod LivelyRuns
+pub mod StuckMeanings

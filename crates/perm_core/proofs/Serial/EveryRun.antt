@@ -1,12 +1,10 @@
 -- Every complete list of events of a checked unit ends as running left then right does, and its meaning is never stuck.
-use Rattle.std.proofs.Common.{◌≢◌, ℕ, List}
+use Rattle.std.proofs.Common.{ℕ, List}
 use Rattle.std.specs.Prelude.{ℤ}
-use Rattle.perm_tree.specs.Code.{Routine, UnitCode}
-use Rattle.perm_meaning.specs.Outcome.{RanStuck, outcome}
-use Rattle.perm_core.specs.Claims.{IsChecked, Opens}
+use Rattle.perm_tree.specs.Code.{UnitCode}
 use Rattle.perm_core.specs.Serial.{EndsLeftThenRight, RefusedWhereFull, NeverStuck}
 use Rattle.perm_core.proofs.KeepsPicture.PictureEvents.{keeps-picture}
-use Rattle.perm_core.proofs.LivelyRuns.{picture-comes, picture-fills}
+use Rattle.perm_core.proofs.Serial.LivelyRuns.{picture-comes, picture-fills}
 use Rattle.perm_core.proofs.Serial.FreeRuns.{KeepsPictures}
 use Rattle.perm_core.proofs.Serial.LeftFirst.{GoesLeftFirst, goes-so, all-end-left-then-right, all-refused-where-full}
 use Rattle.perm_core.proofs.Serial.ToldEnds.{meaning-unstuck}

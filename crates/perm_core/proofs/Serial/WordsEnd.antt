@@ -12,8 +12,8 @@ use Rattle.perm_meaning.specs.WordHeap as worded
 use Rattle.perm_meaning.specs.Steps.{runs}
 use Rattle.perm_meaning.specs.Relate.{OptionR, FinalR}
 use Rattle.perm_meaning.specs.Shows.{Bases, Grows, IsWordOf, AnyMark, HeapShown, IsShownBy}
-use Rattle.perm_meaning.specs.Outcome.{Outcome, Report, Ran, RanFull, RanStuck, outcome, reported, opening_state}
-use Rattle.perm_meaning.specs.Told.{IsTold, told_end}
+use Rattle.perm_meaning.specs.Outcome.{Outcome, Ran, RanFull, RanStuck, outcome, reported, opening_state}
+use Rattle.perm_meaning.specs.Told.{told_end}
 use Rattle.perm_meaning.proofs.Leads.{some_inj, none_some, then_some, then_at}
 use Rattle.perm_meaning.proofs.OnWords.OpeningShown.{opening_bases, opening_shown, root_base}
 use Rattle.perm_meaning.proofs.OnWords.Related.{final_alike}
@@ -21,7 +21,7 @@ use Rattle.perm_meaning.proofs.OnWords.WordsRun.{told_alike, told_heap}
 use Rattle.perm_core.specs.Core.{step, told_of}
 use Rattle.perm_core.specs.WordCore as word_core
 use Rattle.perm_core.specs.Claims.{IsChecked, OpensOnWords}
-use Rattle.perm_core.specs.Serial.{TellsOnWords, IsToldOnWords, WordsEndLeftThenRight}
+use Rattle.perm_core.specs.Serial.{IsToldOnWords, WordsEndLeftThenRight}
 use Rattle.perm_core.proofs.KeepsPicture.PictureEvents.{keeps-picture}
 use Rattle.perm_core.proofs.WordsShown.{words_do_no_more}
 use Rattle.perm_core.proofs.Serial.Needs.{runs-append}

@@ -22,10 +22,10 @@ use Rattle.perm_meaning.proofs.MovesAndCopies.Runs.{opening-fewer, lists-alike, 
 use Rattle.perm_meaning.proofs.MovesAndCopies.RunsBack.{IsLively, has_ended, has_event, StaysLively, alone-back, comes-to-outcome, fills-as-outcome}
 use Rattle.perm_core.specs.Core.{core, look, runs, told_of, core_outcome}
 use Rattle.perm_core.specs.Claims.{IsChecked, Opens}
-use Rattle.perm_core.proofs.SteadyCodes.{checked-steady}
-use Rattle.perm_core.proofs.StuckMeanings.CalledCodes.{AllReturn}
-use Rattle.perm_core.proofs.StuckMeanings.Stops.{IsStopped, Stops, stopped-rests}
-use Rattle.perm_core.proofs.StuckMeanings.StuckRuns.{EndsUntold, stuck-run}
+use Rattle.perm_core.proofs.Serial.SteadyCodes.{checked-steady}
+use Rattle.perm_core.proofs.Serial.StuckMeanings.CalledCodes.{AllReturn}
+use Rattle.perm_core.proofs.Serial.StuckMeanings.Stops.{IsStopped, Stops, stopped-rests}
+use Rattle.perm_core.proofs.Serial.StuckMeanings.StuckRuns.{EndsUntold, stuck-run}
 
 module _ (u : UnitCode) (limit : ℕ) (input : List ℤ) (turns : ℕ) (r : Routine) (is : IsChecked u) (o : Opens u limit input r) where
   steady : IsSteady u

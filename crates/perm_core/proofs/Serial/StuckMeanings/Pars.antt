@@ -17,8 +17,8 @@ use Rattle.perm_meaning.proofs.Leads.{in_left, in_right, lead_left, lead_right}
 use Rattle.perm_meaning.proofs.LeftFirst.Reached.{Frame, at_code, going, Follows}
 use Rattle.perm_meaning.proofs.LeftFirst.OneTurn.{plain, at_empty}
 use Rattle.perm_core.specs.Endings.{ByNothing}
-use Rattle.perm_core.proofs.StuckMeanings.Results.{EndsBy}
-use Rattle.perm_core.proofs.StuckMeanings.Stops.{Stalls, TurnStalls, stops-along, left-stops, right-stops}
+use Rattle.perm_core.proofs.Serial.StuckMeanings.Results.{EndsBy}
+use Rattle.perm_core.proofs.Serial.StuckMeanings.Stops.{Stalls, TurnStalls, stops-along, left-stops, right-stops}
 
 -- a side gives back no value
 abbrev pub GivesNothing : Final → Type 0

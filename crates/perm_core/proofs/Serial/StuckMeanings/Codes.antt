@@ -22,10 +22,10 @@ use Rattle.perm_meaning.proofs.LeftFirst.OneTurn.{then_task, spending, on_follow
 use Rattle.perm_meaning.proofs.LeftFirst.AtPar.{par_to}
 use Rattle.perm_meaning.proofs.LeftFirst.Serial.{effect_to, follows, mean_follows}
 use Rattle.perm_core.specs.Endings.{Ending, ByNothing, ByGive, ByReturn, ends}
-use Rattle.perm_core.proofs.StuckMeanings.CalledCodes.{AllReturn, CallsRightly, AllCallRightly, effect-calls}
-use Rattle.perm_core.proofs.StuckMeanings.Results.{EndsBy, spend-by, test-by, fails-by, does-by, mean-by}
-use Rattle.perm_core.proofs.StuckMeanings.Stops.{Stalls, AnswerStalls, TurnStalls, spending-stalls, on-stalls, test-stalls, then-stalls}
-use Rattle.perm_core.proofs.StuckMeanings.Pars.{par-by, par-stalls, depth-stalls}
+use Rattle.perm_core.proofs.Serial.StuckMeanings.CalledCodes.{AllReturn, CallsRightly, AllCallRightly, effect-calls}
+use Rattle.perm_core.proofs.Serial.StuckMeanings.Results.{EndsBy, spend-by, test-by, fails-by, does-by, mean-by}
+use Rattle.perm_core.proofs.Serial.StuckMeanings.Stops.{Stalls, AnswerStalls, TurnStalls, spending-stalls, on-stalls, test-stalls, then-stalls}
+use Rattle.perm_core.proofs.Serial.StuckMeanings.Pars.{par-by, par-stalls, depth-stalls}
 
 -- ---------- ends of blocks ----------
 -- a block ends well, or fails

@@ -12,10 +12,10 @@ use Rattle.perm_meaning.proofs.LeftFirst.OneTurn.{at_empty}
 use Rattle.perm_meaning.proofs.LeftFirst.Reached.{Follows}
 use Rattle.perm_meaning.proofs.LeftFirst.WholeRun.{body_result, opening_follows, outcome_is}
 use Rattle.perm_core.specs.Endings.{ByReturn}
-use Rattle.perm_core.proofs.StuckMeanings.CalledCodes.{AllReturn}
-use Rattle.perm_core.proofs.StuckMeanings.Results.{EndsBy, mean-by}
-use Rattle.perm_core.proofs.StuckMeanings.Stops.{Stops, Stalls}
-use Rattle.perm_core.proofs.StuckMeanings.Codes.{mean-stalls}
+use Rattle.perm_core.proofs.Serial.StuckMeanings.CalledCodes.{AllReturn}
+use Rattle.perm_core.proofs.Serial.StuckMeanings.Results.{EndsBy, mean-by}
+use Rattle.perm_core.proofs.Serial.StuckMeanings.Stops.{Stops, Stalls}
+use Rattle.perm_core.proofs.Serial.StuckMeanings.Codes.{mean-stalls}
 
 -- left first, the machine that copies variables ends with what isn't told
 pub record EndsUntold (u : UnitCode) (fits : ℕ → Bool) (turns : ℕ) (s : State) : Type 0 where

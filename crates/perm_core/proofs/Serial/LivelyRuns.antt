@@ -15,7 +15,7 @@ use Rattle.perm_core.specs.Regions.{Labels}
 use Rattle.perm_core.specs.Picture.{IsPicture}
 use Rattle.perm_core.specs.NextPicture.{first_picture, next_picture}
 use Rattle.perm_core.specs.Claims.{KeepsPicture}
-use Rattle.perm_core.proofs.LeftRuns.{left-first-comes, left-first-fills}
+use Rattle.perm_core.proofs.Serial.LeftRuns.{left-first-comes, left-first-fills}
 use Rattle.perm_core.proofs.Progress.NextEvents.{has_next}
 use Rattle.perm_core.proofs.OpeningPicture.{opens_with_picture}
 

@@ -16,7 +16,7 @@ use Rattle.perm_meaning.proofs.Leads.{some_inj, none_some, stay, one, lead, in_l
 use Rattle.perm_meaning.proofs.LeftFirst.Reached.{Frame, going, settles, Reach, Follows}
 use Rattle.perm_meaning.proofs.LeftFirst.OneTurn.{plain, IsDue, before, then_task}
 use Rattle.perm_core.specs.Endings.{ByNothing}
-use Rattle.perm_core.proofs.StuckMeanings.Results.{EndsBy}
+use Rattle.perm_core.proofs.Serial.StuckMeanings.Results.{EndsBy}
 
 module _ (u : UnitCode) (fits : ℕ → Bool) where
   -- it hasn't ended, and what its leftmost node asks isn't there
