@@ -16,3 +16,4 @@ pub mod SteadyCodes
 pub mod LeftRuns
 pub mod LivelyRuns
 pub mod StuckMeanings
+pub mod ReachedStates

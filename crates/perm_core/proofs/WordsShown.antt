@@ -1,7 +1,7 @@
 -- The core on words and the core on names go step by step alike, whatever the order of events.
 use Rattle.std.proofs.Common.{◌≡◌, ℕ, ◌<◌, ◌^◌, ap, Option, Some, None, List, [], ◌∷◌, refl, sym, subst, ◌∙◌, inl, inr}
 use Rattle.std.specs.Prelude.{◌⊎◌, ℤ, option_and_then}
-use Rattle.perm_tree.specs.Code.{UnitCode}
+use Rattle.perm_tree.specs.Code.{Routine, UnitCode}
 use Rattle.perm_meaning.specs.Machine.{Leaf, Fork, Way, Here, GoL, GoR, Final, Stage, Over, Due, final, stage, over, leaf_op, if_both_over}
 use Rattle.perm_meaning.specs.Custody.{Moves}
 use Rattle.perm_meaning.specs.Effects.{Tick}
@@ -9,7 +9,7 @@ use Rattle.perm_meaning.specs.Literals.{UnitFits}
 use Rattle.perm_meaning.specs.NamedHeap as named
 use Rattle.perm_meaning.specs.NamedHeap.{Op, Held, Task, State, memory}
 use Rattle.perm_meaning.specs.Relate.{OptionR, FinalR, TaskR}
-use Rattle.perm_meaning.specs.Shows.{Bases, IsWordOf, AnyMark, IsShown, IsShownBy}
+use Rattle.perm_meaning.specs.Shows.{Bases, Grows, IsWordOf, AnyMark, IsShown, IsShownBy}
 use Rattle.perm_meaning.specs.Steps.{next_state, asked, within}
 use Rattle.perm_meaning.specs.WordHeap as worded
 use Rattle.perm_meaning.specs.WordHeap.{Ask}
@@ -23,7 +23,7 @@ use Rattle.perm_meaning.specs.Outcome.{opening_state}
 use Rattle.perm_core.specs.Core.{core, look, step, runs}
 use Rattle.perm_core.specs.WordCore as word_core
 use Rattle.perm_core.specs.WordCore.{word_core as machine}
-use Rattle.perm_core.specs.Claims.{WordsShowRuns, WordsFollow, WordsDoNoMore, AllHaveNext, leaf_at}
+use Rattle.perm_core.specs.Claims.{OpensOnWords, WordsShowRuns, WordsFollow, AllHaveNext, leaf_at}
 
 module _ (u : UnitCode) (limit : ℕ) where
   -- ---------- from names to words ----------
@@ -106,7 +106,9 @@ module _ (u : UnitCode) (limit : ℕ) where
       by_look None q e = none_some e
       by_look (Some p) q e = (p, q)
 
-  pub words_do_no_more : (input : List ℤ) (turns : ℕ) → WordsDoNoMore u limit input turns
+  pub words_do_no_more : (input : List ℤ) (turns : ℕ) (r : Routine) → OpensOnWords u limit input r → (ws : List Way) (s : State) (b : Bases) (t t' : worded.State) (w : Way)
+      → runs u limit ws (opening_state u input turns r) ≡ Some s → IsShownBy b s t → AllHaveNext u limit s → word_core.step u limit t w ≡ Some t'
+      → (s' : State) × (step u limit s w ≡ Some s') × (c : Bases) × Grows b c × IsShownBy c s' t'
   words_do_no_more input turns r is ws s b t t' w e shown all event =
       let ask = asks t t' w event in
       let next = event_there s w all (goes b w s.task t.task ask.0 shown.task ask.1) in

@@ -109,10 +109,10 @@ module _ (u : UnitCode) (limit : ℕ) where
   WordsFollow input turns = (r : Routine) → OpensOnWords input r → (ws : List Way) (s s' : State) (b : Bases) (t : worded.State) (w : Way)
       → runs u limit ws (opening_state u input turns r) ≡ Some s → IsShownBy b s t → step u limit s w ≡ Some s' → Follows b t w s'
 
-  -- and it does nothing else, where each leaf that isn't over has an event on names
+  -- and it does nothing else
   abbrev pub WordsDoNoMore : List ℤ → ℕ → Type 0
-  WordsDoNoMore input turns = (r : Routine) → OpensOnWords input r → (ws : List Way) (s : State) (b : Bases) (t t' : worded.State) (w : Way)
-      → runs u limit ws (opening_state u input turns r) ≡ Some s → IsShownBy b s t → AllHaveNext s → word_core.step u limit t w ≡ Some t'
+  WordsDoNoMore input turns = (r : Routine) → IsChecked u → OpensOnWords input r → (ws : List Way) (s : State) (b : Bases) (t t' : worded.State) (w : Way)
+      → runs u limit ws (opening_state u input turns r) ≡ Some s → IsShownBy b s t → word_core.step u limit t w ≡ Some t'
       → (s' : State) × (step u limit s w ≡ Some s') × (c : Bases) × Grows b c × IsShownBy c s' t'
 
 -- ---------- pieces ----------

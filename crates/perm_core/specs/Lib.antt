@@ -10,3 +10,4 @@ pub mod Bag
 pub mod Pieces
 pub mod Claims
 pub mod Serial
+pub mod Reached

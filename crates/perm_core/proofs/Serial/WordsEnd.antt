@@ -48,13 +48,13 @@ module _ (u : UnitCode) (limit : ℕ) (input : List ℤ) (turns : ℕ) (r : Rout
   start = opening_state u input turns r
 
   -- a state on words that shows one to which a list of events leads on names
-  record Shows (t : worded.State) : Type 0 where
-    events : List Way
-    state : State
-    run : runs (step u limit) events start ≡ Some state
-    bases : Bases
-    grown : Grows (opening_bases u input opens.numbers) bases
-    shown : IsShownBy bases state t
+  pub record Shows (t : worded.State) : Type 0 where
+    pub events : List Way
+    pub state : State
+    pub run : runs (step u limit) events start ≡ Some state
+    pub bases : Bases
+    pub grown : Grows (opening_bases u input opens.numbers) bases
+    pub shown : IsShownBy bases state t
 
   shows-next : (t t' : worded.State) (w : Way) → Shows t → word_core.step u limit t w ≡ Some t' → Shows t'
   shows-next t t' w x e =
@@ -69,11 +69,11 @@ module _ (u : UnitCode) (limit : ℕ) (input : List ℤ) (turns : ℕ) (r : Rout
         shown = y.4;
       }
 
-  shows-runs : (ws : List Way) (t t' : worded.State) → Shows t → word_core.runs u limit ws t ≡ Some t' → Shows t'
+  pub shows-runs : (ws : List Way) (t t' : worded.State) → Shows t → word_core.runs u limit ws t ≡ Some t' → Shows t'
   shows-runs [] t t' x e = subst (λ z. Shows z) (some_inj e) x
   shows-runs (w ∷ ws) t t' x e = let a = then_some (word_core.step u limit t w) (word_core.runs u limit ws) t' e in shows-runs ws a.0 t' (shows-next t a.0 w x a.1) a.2
 
-  shows-start : Shows (worded.opening_state u input turns r)
+  pub shows-start : Shows (worded.opening_state u input turns r)
   shows-start = record { events = []; state = start; run = refl; bases = opening_bases u input opens.numbers; grown = λ n i e. e; shown = opening_shown u input opens.numbers limit turns r opens.opens.fits opens.bases }
 
   -- ---------- ends ----------

@@ -1,0 +1,38 @@
+-- The states of the core on words that a list of events reaches from the opening.
+use Rattle.std.specs.Prelude.{◌≡◌, ℕ, ℤ, List, Some}
+use Rattle.perm_tree.specs.Code.{Routine, UnitCode}
+use Rattle.perm_meaning.specs.Machine.{Way, Final, final}
+use Rattle.perm_meaning.specs.NamedHeap.{State}
+use Rattle.perm_meaning.specs.Outcome.{outcome}
+use Rattle.perm_meaning.specs.Shows.{IsShown}
+use Rattle.perm_meaning.specs.WordHeap as worded
+use Rattle.perm_core.specs.WordCore as word_core
+use Rattle.perm_core.specs.Regions.{Labels}
+use Rattle.perm_core.specs.Picture.{IsPicture}
+use Rattle.perm_core.specs.Claims.{IsChecked, OpensOnWords}
+use Rattle.perm_core.specs.Serial.{IsToldOnWords}
+
+module _ (u : UnitCode) (limit : ℕ) (input : List ℤ) (turns : ℕ) where
+  -- the state is reached in a run of an accepted unit on this input
+  pub record IsReached (t : worded.State) : Type 0 where
+    pub first : Routine
+    pub checked : IsChecked u
+    pub opens : OpensOnWords u limit input first
+    pub events : List Way
+    pub run : word_core.runs u limit events (worded.opening_state u input turns first) ≡ Some t
+
+  -- the opening is reached
+  abbrev pub ReachesOpening : Type 0
+  ReachesOpening = (r : Routine) → IsChecked u → OpensOnWords u limit input r → IsReached (worded.opening_state u input turns r)
+
+  -- and what an event leads to from a state that is reached
+  abbrev pub ReachesNext : Type 0
+  ReachesNext = (t t' : worded.State) (w : Way) → IsReached t → word_core.step u limit t w ≡ Some t' → IsReached t'
+
+  -- a state that is reached shows one on names that has a picture
+  abbrev pub ShowsPicture : Type 0
+  ShowsPicture = (t : worded.State) → IsReached t → (labels : Labels) × (s : State) × IsPicture u labels s × IsShown s t
+
+  -- where its root has ended, it tells what the meaning comes to
+  abbrev pub TellsMeaning : Type 0
+  TellsMeaning = (t : worded.State) (g : Final ℕ) → IsReached t → final t.task ≡ Some g → IsToldOnWords input turns (outcome u input turns limit) t g
