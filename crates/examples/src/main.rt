@@ -81,16 +81,12 @@ fn wanted_status(rt: &HostRuntime, name: &str) -> io::Result<u8> {
 fn run_cases(rt: &HostRuntime) -> io::Result<()> {
     let alloc = rt.alloc();
     let cases = fs::read_to_string(rt, "cases.txt")?;
-    let mut program = "";
     let mut count = 0u32;
     for line in cases.as_str().lines() {
-        let Some(wanted) = line.strip_prefix("-> ") else {
-            program = line;
+        let Some((program, wanted)) = line.rsplit_once(" -> ") else {
             continue;
         };
-        let answer = answer_of(alloc, &mut shelf_with(alloc, program)?, PATH)?;
-        let text = String::from_utf8_lossy(alloc, answer.text.as_slice())?;
-        let told = format!(in alloc; "{} {}", answer.status, text.as_str().trim())?;
+        let told = told_of(alloc, program)?;
         if told.as_str() != wanted {
             println!(rt; "{program}: {told}")?;
         }
@@ -98,6 +94,13 @@ fn run_cases(rt: &HostRuntime) -> io::Result<()> {
     }
     println!(rt; "{count} small texts are answered")?;
     Ok(())
+}
+
+/// The status and the answer of a text, on one line.
+fn told_of(alloc: Global, program: &str) -> Result<String, AllocError> {
+    let answer = answer_of(alloc, &mut shelf_with(alloc, program)?, PATH)?;
+    let text = String::from_utf8_lossy(alloc, answer.text.as_slice())?;
+    format!(in alloc; "{} {}", answer.status, text.as_str().trim())
 }
 
 /// A shelf with one text.
