@@ -12,7 +12,7 @@ use Rattle.perm_core.specs.Claims.{FewEvents}
 
 -- ---------- turns ----------
 -- the turns of both sides come back
-join-turns : {V : Type 0} (merge : List V → List V → List V → List V) (vs : List V) (out : List ℤ) (x y : Final V) → turns_of (join_final merge vs out x y) ≡ turns_of x + turns_of y
+pub join-turns : {V : Type 0} (merge : List V → List V → List V → List V) (vs : List V) (out : List ℤ) (x y : Final V) → turns_of (join_final merge vs out x y) ≡ turns_of x + turns_of y
 join-turns merge vs out (Fine ls t p) (Fine rs u q) = refl
 join-turns merge vs out (Fine ls t p) (GaveBack v u q) = refl
 join-turns merge vs out (Fine ls t p) (Failed e u q) = refl
@@ -25,7 +25,7 @@ join-turns merge vs out (Failed e t p) (Failed f u q) = refl
 
 module _ {V G : Type 0} where
   -- a step is due where a turn is left
-  due-turns : (close : Option (Close V)) (c : Code) (st : List (Frame V)) (t n : ℕ) (l : Own V G) → stage_from close (stage_by_code c st t l) t l ≡ Due n → t ≡ suc n
+  pub due-turns : (close : Option (Close V)) (c : Code) (st : List (Frame V)) (t n : ℕ) (l : Own V G) → stage_from close (stage_by_code c st t l) t l ≡ Due n → t ≡ suc n
   due-turns (Some (Returning v)) c st t n l e = absurd (let no : ⊥ = cc e in no)
   due-turns (Some (Failing f)) c st t n l e = absurd (let no : ⊥ = cc e in no)
   due-turns None c st zero n l e = absurd (none-due c st e)
@@ -54,7 +54,7 @@ module _ {V G : Type 0} where
       same (Recover at x own hides a rest) st e = cc e
 
   -- a leaf that is over has the turns that are left
-  over-turns : (close : Option (Close V)) (c : Code) (st : List (Frame V)) (t : ℕ) (l : Own V G) (f : Final V) → over (stage_from close (stage_by_code c st t l) t l) ≡ Some f → turns_of f ≡ t
+  pub over-turns : (close : Option (Close V)) (c : Code) (st : List (Frame V)) (t : ℕ) (l : Own V G) (f : Final V) → over (stage_from close (stage_by_code c st t l) t l) ≡ Some f → turns_of f ≡ t
   over-turns (Some (Returning v)) c st t l f e = ap turns_of (some_inj (sym e))
   over-turns (Some (Failing x)) c st t l f e = ap turns_of (some_inj (sym e))
   over-turns None c st t l f e = by_code c st e
@@ -85,7 +85,7 @@ module _ {V G : Type 0} where
 
 -- ---------- one event ----------
 module _ {V G O : Type 0} (m : Machine V G O) where
-  settled-turns : (b : Branch V G) (vs : List V) (c : Code) (st : List (Frame V)) → (settled m b vs c st).turns ≡ b.turns
+  pub settled-turns : (b : Branch V G) (vs : List V) (c : Code) (st : List (Frame V)) → (settled m b vs c st).turns ≡ b.turns
   settled-turns b vs End [] = refl
   settled-turns b vs End (OpenBlock own rest ∷ st) = settled-turns b (m.clear_own vs own) rest st
   settled-turns b vs End (OpenRecover own hides saved rest ∷ st) = refl

@@ -4,3 +4,4 @@ pub mod Holes
 pub mod HeldEvents
 pub mod RightSides
 pub mod PieceEvents
+pub mod PieceCounts

@@ -1,8 +1,8 @@
 -- How the branches of a tree are held: each holder has one piece, and the numbers of the waiting parents tie the pieces to each other. No holder needs the tree.
-use Rattle.std.specs.Prelude.{◌≡◌, ℕ, List, [], ◌∷◌, ◌++◌, Option, Some, None}
-use Rattle.perm_meaning.specs.Machine.{Branch, Task, Fork, Blocks, Way, Here, GoL, GoR}
+use Rattle.std.specs.Prelude.{◌≡◌, ℕ, ◌+◌, nat_eq, List, [], ◌∷◌, ◌++◌, Option, Some, None}
+use Rattle.perm_meaning.specs.Machine.{Branch, Task, Leaf, Fork, Blocks, Way, Here, GoL, GoR}
 use Rattle.perm_meaning.specs.Steps.{Lone, Run, KeptRight, KeptLeft, lone_task, AreOver}
-use Rattle.perm_core.specs.Bag.{IsDistinct}
+use Rattle.perm_core.specs.Bag.{IsDistinct, one_if, times}
 
 -- ---------- stems ----------
 -- a waiting parent with the blocks of its par, and its number if it bears one
@@ -126,3 +126,46 @@ module _ {V G : Type 0} where
   IsAsideIn (Two n l r) Here = ⊥
   IsAsideIn (Two n l r) (GoL w) = IsAsideIn l w
   IsAsideIn (Two n l r) (GoR w) = IsAsideIn r w
+
+-- ---------- counts ----------
+-- how often a stem ends at the right side of this number: once or not at all
+abbrev pub at_foot : ℕ → Foot → ℕ
+at_foot i AtRoot = 0
+at_foot i (OnRightSide None) = 0
+at_foot i (OnRightSide (Some n)) = one_if (nat_eq i n)
+
+module _ {V G : Type 0} where
+  -- the numbers of these parents
+  abbrev pub numbers_of : List (Numbered V G) → List ℕ
+  numbers_of [] = []
+  numbers_of (w ∷ ws) = w.number ∷ numbers_of ws
+
+  -- how often a piece stands at the foot of the right side of this number
+  abbrev pub feet_of : ℕ → Piece V G → ℕ
+  feet_of i x = at_foot i x.foot
+
+  -- how often it stands below the left side of this number
+  abbrev pub parents_of : ℕ → Piece V G → ℕ
+  parents_of i x = times i (numbers_of x.parents)
+
+  -- the turns that the leaves of a tree have left
+  abbrev pub turns_in : Task V G → ℕ
+  turns_in (Leaf b) = b.turns
+  turns_in (Fork b p l r) = turns_in l + turns_in r
+
+  -- the turns that a piece has left
+  abbrev pub turns_of_piece : Piece V G → ℕ
+  turns_of_piece x = turns_in (lone_task x.own)
+
+  -- 1 where the node is a leaf, whose event takes a turn; 0 where it is a waiting parent, whose event is the join
+  abbrev pub turn_at : Way → Task V G → ℕ
+  turn_at Here (Leaf b) = 1
+  turn_at Here (Fork b p l r) = 0
+  turn_at (GoL w) (Leaf b) = 0
+  turn_at (GoL w) (Fork b p l r) = turn_at w l
+  turn_at (GoR w) (Leaf b) = 0
+  turn_at (GoR w) (Fork b p l r) = turn_at w r
+
+  -- nothing is kept aside
+  abbrev pub IsAlone : Lone V G → Type 0
+  IsAlone x = (b : Branch V G) × (x ≡ Run b)

@@ -20,14 +20,14 @@ module _ {V G : Type 0} where
   EndsRightOf p ns = (n : ℕ) × (p.foot ≡ right_of n) × IsIn n ns
 
   -- it ends here, below at least so many parents
-  abbrev EndsAt : Piece V G → Foot → ℕ → Type 0
+  abbrev pub EndsAt : Piece V G → Foot → ℕ → Type 0
   EndsAt p foot n = (p.foot ≡ foot) × (n ≤ length p.parents)
 
   wider : (p : Piece V G) (ns ms : List ℕ) → ((n : ℕ) → IsIn n ns → IsIn n ms) → EndsRightOf p ns → EndsRightOf p ms
   wider p ns ms f h = (h.0, h.1, f h.0 h.2)
 
   -- ---------- where the stems of the pieces end ----------
-  feet : (h : Held V G) (foot : Foot) (up : List (Numbered V G)) (p : Piece V G) → IsIn p (cut foot up h) → EndsAt p foot (length up) ⊎ EndsRightOf p (numbers h)
+  pub feet : (h : Held V G) (foot : Foot) (up : List (Numbered V G)) (p : Piece V G) → IsIn p (cut foot up h) → EndsAt p foot (length up) ⊎ EndsRightOf p (numbers h)
   feet (One x) foot up p (inl q) = inl (ap (λ (z : Piece V G). z.foot) q, subst (λ (z : Piece V G). length up ≤ length z.parents) (sym q) (le_refl (length up)))
   feet (One x) foot up p (inr q) = absurd q
   feet (Two w l r) foot up p q = go (λ q. feet l foot (w ∷ up) p q) (λ q. feet r (right_of w.number) [] p q) (in-split p (cut foot (w ∷ up) l) (cut (right_of w.number) [] r) q)
