@@ -9,5 +9,6 @@ pub mod NextPicture
 pub mod Bag
 pub mod Pieces
 pub mod Claims
+pub mod PieceLaws
 pub mod Serial
 pub mod Reached

@@ -1,12 +1,12 @@
 -- Each event of a numbered tree changes one piece, replaces a piece by two that bear a new number, or replaces the two of a number by one; or it is on a side that is kept aside.
 use Rattle.std.proofs.Common.{◌≡◌, ℕ, Option, Some, None, List, [], ◌∷◌, ◌++◌, sym, ap, subst, ◌∙◌, inl, inr}
-use Rattle.std.specs.Prelude.{◌⊎◌}
+use Rattle.std.specs.Prelude.{◌⊎◌, nat_eq, ◌+◌}
 use Rattle.perm_meaning.specs.Machine.{Branch, Leaf, Fork, Blocks, Way, Here, Final, Machine, stage, final, if_both_over, leaf_op, leaf_on, resumed, join_of, look, fill}
 use Rattle.perm_meaning.specs.Steps.{Lone, Run, lone_task, lone_of, lone_way, lone_on}
-use Rattle.perm_core.specs.Bag.{Picks, IsIn, IsDistinct}
+use Rattle.perm_core.specs.Bag.{Picks, IsIn, IsDistinct, one_if, times}
 use Rattle.perm_core.specs.Pieces.{AtRoot, OnRightSide, Numbered, Piece, Held, One, Two, held_task, pieces, numbers, AllOver, IsAsideIn}
-use Rattle.perm_core.specs.Claims.{piece, HeldAfter, ChangesOne, Sides, JoinsTwo, SplitsOne, TurnOfPiece, SplitOfPiece, JoinOfPieces, OfOne, OfTwo, EventOfPieces}
-use Rattle.perm_core.proofs.Pieces.Bags.{picks-mid, distinct-put, distinct-out}
+use Rattle.perm_core.specs.PieceLaws.{piece, HeldAfter, BearsMore, ChangesOne, Sides, JoinsTwo, SplitsOne, TurnOfPiece, SplitOfPiece, JoinOfPieces, OfOne, OfTwo, EventOfPieces}
+use Rattle.perm_core.proofs.Pieces.Bags.{picks-mid, distinct-put, distinct-out, times-put}
 use Rattle.perm_core.proofs.Pieces.Holes.{Round, plug, at_hole, foot_at, parents_at, before, behind, cut-plug, numbers_before, numbers_behind, numbers-plug, over-plug, over-in, Spot, find, look-plug, fill-plug}
 use Rattle.perm_core.proofs.Pieces.HeldEvents.{joined-held, lone-event, joined-over, lone-over, join-sides, AtHolder, AtJoin, each-event}
 use Rattle.perm_core.proofs.Pieces.RightSides.{Pair, find-pair}
@@ -63,11 +63,18 @@ module _ {V G O : Type 0} (m : Machine V G O) where
 
   splits-one : (c : Round V G) (b by l r : Branch V G) (p : Blocks) (o : O) (v : Option V) (n : ℕ) → IsDistinct (numbers (plug c (One (Run b)))) → AllOver (plug c (One (Run b)))
       → leaf_op m b (stage b) ≡ Some o → leaf_on m b (stage b) v ≡ Fork by p (Leaf l) (Leaf r) → (IsIn n (numbers (plug c (One (Run b)))) → ⊥)
-      → SplitsOne m (plug c (One (Run b))) (at_hole c Here) o v (foot_at AtRoot c) (parents_at [] c) (record { branch = by; blocks = p; number = n }) l r (around c)
+      → SplitsOne m (plug c (One (Run b))) (at_hole c Here) o v (foot_at AtRoot c) (parents_at [] c) b (record { branch = by; blocks = p; number = n }) l r (around c)
   splits-one c b by l r p o v n once over e f new =
       record {
+        held = picked c (Run b);
+        next = e;
+        starts = f;
         event = look-plug m c (One (Run b)) Here ∙ e;
         after = two_in c parent l r;
+        borne = λ i.
+            ap (times i) (numbers-plug c (Two parent (One (Run l)) (One (Run r))))
+            ∙ times-put i n (numbers_before c) (numbers_behind c)
+            ∙ ap (λ z. times i z + one_if (nat_eq i n)) (sym round);
         is_after = record {
           task = fill-plug m c (One (Run b)) (Two parent (One (Run l)) (One (Run r))) Here v (sym f);
           once = subst (λ z. IsDistinct z) (sym (numbers-plug c (Two parent (One (Run l)) (One (Run r)))))
@@ -91,7 +98,7 @@ module _ {V G O : Type 0} (m : Machine V G O) where
         left_over = e;
         right_over = f;
         event = look-plug m c old Here ∙ ap (λ z. if_both_over z (final (Leaf r)) None (λ x y. Some m.idle)) e ∙ ap (λ z. if_both_over (Some x) z None (λ x y. Some m.idle)) f;
-        after = λ v. (plug c (One joined), is_after v, picked c joined);
+        after = λ v. (plug c (One joined), is_after v, more, picked c joined);
       }
     where
       old : Held V G
@@ -102,6 +109,12 @@ module _ {V G O : Type 0} (m : Machine V G O) where
 
       joined : Lone V G
       joined = lone_of (resumed m n.branch end)
+
+      more : BearsMore m (plug c old) (plug c (One joined)) n.number
+      more i =
+          ap (times i) (numbers-plug c old)
+          ∙ times-put i n.number (numbers_before c) (numbers_behind c)
+          ∙ ap (λ z. times i z + one_if (nat_eq i n.number)) (sym (numbers-plug c (One joined)))
 
       filled : (v : Option V) → fill m Here (held_task old) v ≡ resumed m n.branch end
       filled v =
@@ -135,10 +148,10 @@ module _ {V G O : Type 0} (m : Machine V G O) where
   pub split_of_piece : SplitOfPiece m
   split_of_piece h foot up b by l r p rest o v n once over q e f new = (
     at_hole c Here,
-    subst (λ z. SplitsOne m h (at_hole c Here) o v foot up parent l r z) (sym s.others)
-        (subst (λ z. SplitsOne m h (at_hole c Here) o v foot z parent l r (around c)) s.parents_are
-        (subst (λ z. SplitsOne m h (at_hole c Here) o v z (parents_at [] c) parent l r (around c)) s.foot_is
-        (subst (λ z. SplitsOne m z (at_hole c Here) o v (foot_at AtRoot c) (parents_at [] c) parent l r (around c)) (sym s.is)
+    subst (λ z. SplitsOne m h (at_hole c Here) o v foot up b parent l r z) (sym s.others)
+        (subst (λ z. SplitsOne m h (at_hole c Here) o v foot z b parent l r (around c)) s.parents_are
+        (subst (λ z. SplitsOne m h (at_hole c Here) o v z (parents_at [] c) b parent l r (around c)) s.foot_is
+        (subst (λ z. SplitsOne m z (at_hole c Here) o v (foot_at AtRoot c) (parents_at [] c) b parent l r (around c)) (sym s.is)
         (splits-one c b by l r p o v n (subst (λ z. IsDistinct (numbers z)) s.is once) (subst (λ z. AllOver z) s.is over) e f (subst (λ z. IsIn n (numbers z) → ⊥) s.is new))))),
   )
     where
