@@ -1,10 +1,10 @@
--- What the laws of pieces claim: each event of a numbered tree is told by the pieces that its holders have.
-use Rattle.std.specs.Prelude.{◌≡◌, ℕ, ◌+◌, nat_eq, ◌⊎◌, List, [], ◌∷◌, Option, Some}
+-- What the law of pieces claims: the pieces that the holders have tell each event of a numbered tree, and count its numbers and its turns.
+use Rattle.std.specs.Prelude.{◌≡◌, ℕ, suc, ◌+◌, nat_eq, ◌⊎◌, List, [], ◌∷◌, Option, Some}
 use Rattle.perm_meaning.specs.Machine.{Branch, Leaf, Fork, Blocks, Way, Final, final, stage, Machine, leaf_op, leaf_on, resumed, join_of}
 use Rattle.perm_meaning.specs.Machine as machines
-use Rattle.perm_meaning.specs.Steps.{Lone, Run, lone_task, lone_way, lone_on, lone_of}
-use Rattle.perm_core.specs.Bag.{Picks, IsIn, IsDistinct, one_if, times}
-use Rattle.perm_core.specs.Pieces.{Foot, OnRightSide, Numbered, Piece, Held, held_task, pieces, numbers, AllOver, IsAsideIn}
+use Rattle.perm_meaning.specs.Steps.{Lone, Run, lone_task, lone_way, lone_on, lone_of, turned}
+use Rattle.perm_core.specs.Bag.{Picks, IsIn, IsDistinct, one_if, times, total}
+use Rattle.perm_core.specs.Pieces.{Foot, AtRoot, OnRightSide, Numbered, Piece, Held, One, held_task, pieces, numbers, AllOver, IsAsideIn, feet_of, parents_of, turns_in, turns_of_piece, turn_at}
 
 module _ {V G O : Type 0} (m : Machine V G O) where
   -- a piece of this foot, these numbered parents, and this rest
@@ -92,9 +92,67 @@ module _ {V G O : Type 0} (m : Machine V G O) where
   abbrev pub EventOfPieces : Type 0
   EventOfPieces = (h : Held V G) (w : Way) (o : O) → IsDistinct (numbers h) → AllOver h → machines.look m w (held_task h) ≡ Some o → OfOne h w o ⊎ (OfTwo h w ⊎ IsAsideIn h w)
 
+  -- ---------- what is no event ----------
+  -- the holder has turned to the right side whose left side has ended, if there is one: the tree is the same
+  pub record TurnsOne (h : Held V G) (x : Piece V G) (rest : List (Piece V G)) : Type 0 where
+    pub after : Held V G
+    pub task : held_task after ≡ held_task h
+    pub same : numbers after ≡ numbers h
+    pub over : AllOver after
+    pub held : Picks (record x { own = turned x.own }) (pieces after) rest
+
+  -- a holder may turn to its right side
+  abbrev pub TurnsRight : Type 0
+  TurnsRight = (h : Held V G) (x : Piece V G) (rest : List (Piece V G)) → AllOver h → Picks x (pieces h) rest → TurnsOne h x rest
+
+  -- a piece that ends at the root below no parents is the whole tree
+  abbrev pub RootIsAll : Type 0
+  RootIsAll = (h : Held V G) (x : Lone V G) (rest : List (Piece V G)) → Picks (piece AtRoot [] x) (pieces h) rest → (h ≡ One x) × (rest ≡ [])
+
+  -- ---------- counts ----------
+  -- as often as a number is borne, a piece stands at the foot of its right side, and as often one below its left side
+  abbrev pub NumbersOfPieces : Type 0
+  NumbersOfPieces = (h : Held V G) (i : ℕ) → (total (feet_of i) (pieces h) ≡ times i (numbers h)) × (total (parents_of i) (pieces h) ≡ times i (numbers h))
+
+  -- the pieces have the turns of the tree
+  abbrev pub TurnsOfPieces : Type 0
+  TurnsOfPieces = (h : Held V G) → total turns_of_piece (pieces h) ≡ turns_in (held_task h)
+
+  -- the next event of a holder takes one turn where it is a leaf's, and none where it is a join
+  abbrev pub TakesTurns : Type 0
+  TakesTurns = (x : Lone V G) (o : O) (v : Option V) → machines.look m (lone_way x) (lone_task x) ≡ Some o → turns_in (lone_task (lone_on m x v)) + turn_at (lone_way x) (lone_task x) ≡ turns_in (lone_task x)
+
+  -- the start of a par takes one turn and shares out the rest
+  abbrev pub SplitTakes : Type 0
+  SplitTakes = (b c l r : Branch V G) (p : Blocks) (o : O) (v : Option V) → leaf_op m b (stage b) ≡ Some o → leaf_on m b (stage b) v ≡ Fork c p (Leaf l) (Leaf r) → suc (l.turns + r.turns) ≡ b.turns
+
+  -- a join brings the turns of both sides back
+  abbrev pub JoinReturns : Type 0
+  JoinReturns = (b l r : Branch V G) (p : Blocks) (x y : Final V) → final {G = G} (Leaf l) ≡ Some x → final {G = G} (Leaf r) ≡ Some y
+      → turns_in (lone_task (lone_of (resumed m b (join_of m b p x y)))) ≡ l.turns + r.turns
+
+  -- what asks something of the heap is a leaf
+  abbrev pub AsksAtLeaf : Type 0
+  AsksAtLeaf = (x : Lone V G) (o : O) → machines.look m (lone_way x) (lone_task x) ≡ Some o → (o ≡ m.idle → ⊥) → turn_at (lone_way x) (lone_task x) ≡ 1
+
+  -- ---------- what the law says ----------
   -- the pieces tell every event of a tree but those of sides that are kept aside
   pub record PiecesTellEvents : Type 0 where
     pub turn : TurnOfPiece
     pub split : SplitOfPiece
     pub join : JoinOfPieces
     pub event : EventOfPieces
+
+  -- a holder that turns to its right side leaves the tree as it is, and a piece at the root below no parents is the whole tree
+  pub record PiecesTellTree : Type 0 where
+    pub right : TurnsRight
+    pub root : RootIsAll
+
+  -- the pieces count the numbers that are borne and the turns that are left, and each kind of event takes its part of the turns
+  pub record PiecesCount : Type 0 where
+    pub numbers : NumbersOfPieces
+    pub turns : TurnsOfPieces
+    pub takes : TakesTurns
+    pub shares : SplitTakes
+    pub returns : JoinReturns
+    pub asks : AsksAtLeaf

@@ -1,11 +1,13 @@
 -- What the pieces of a tree count: the numbers that are borne and the turns that are left, and what events, the starts of pars and joins take of these.
-use Rattle.std.proofs.Common.{◌≡◌, ℕ, suc, ◌+◌, Option, Some, None, List, [], ◌∷◌, refl, sym, ◌∙◌, arith}
+use Rattle.std.proofs.Common.{◌≡◌, ℕ, suc, ◌+◌, Option, Some, None, List, [], ◌∷◌, refl, sym, ap, ◌∙◌, arith}
 use Rattle.perm_meaning.specs.Machine.{Branch, Task, Leaf, Fork, Blocks, Way, Here, GoL, GoR, Final, Fine, GaveBack, Failed, Stage, Over, Due, Did, On, Splits, Ends, Dies, Turn, Takes, NoTurn, Machine, stage, final, turns_of, if_both_over, done, told_to, turn_op, next_turn, leaf_op, leaf_on, resumed, join_of, look, fill}
-use Rattle.perm_meaning.specs.Steps.{lone_of}
+use Rattle.perm_meaning.specs.Steps.{lone_task, lone_of, lone_way}
 use Rattle.perm_meaning.proofs.Leads.{some_inj, none_some}
 use Rattle.perm_core.specs.Bag.{times, total}
-use Rattle.perm_core.specs.Pieces.{Foot, Numbered, Held, One, Two, held_task, cut, numbers, at_foot, numbers_of, feet_of, parents_of, turns_in, turns_of_piece, turn_at, IsAlone}
+use Rattle.perm_core.specs.Pieces.{Foot, AtRoot, Numbered, Held, One, Two, held_task, cut, numbers, at_foot, numbers_of, feet_of, parents_of, turns_in, turns_of_piece, turn_at, IsAlone}
+use Rattle.perm_core.specs.PieceLaws.{NumbersOfPieces, TurnsOfPieces, TakesTurns, SplitTakes, JoinReturns, AsksAtLeaf}
 use Rattle.perm_core.proofs.Pieces.Bags.{total-append, times-append}
+use Rattle.perm_core.proofs.Pieces.HeldEvents.{lone-event, joined-held}
 use Rattle.perm_core.proofs.Pieces.RightSides.{right_of}
 use Rattle.perm_core.proofs.FewEvents.{join-turns, due-turns, over-turns, settled-turns}
 
@@ -115,3 +117,27 @@ module _ {V G O : Type 0} (m : Machine V G O) where
   joined-alone b (Fine vs t p) = (_, refl)
   joined-alone b (GaveBack v t p) = (_, refl)
   joined-alone b (Failed e t p) = (_, refl)
+
+  -- ---------- the law ----------
+  pub numbers_of_pieces : NumbersOfPieces m
+  numbers_of_pieces h i = let a = feet-sum i h AtRoot [] in let b = parents-sum i h AtRoot [] in (omega arith, omega arith)
+
+  pub turns_of_pieces : TurnsOfPieces m
+  turns_of_pieces h = turns-sum h AtRoot []
+
+  pub takes_turns : TakesTurns m
+  takes_turns x o v e = ap (λ t. turns_in t + turn_at (lone_way x) (lone_task x)) (lone-event m x v o e) ∙ event-turns (lone_way x) (lone_task x) o v e
+
+  pub split_takes : SplitTakes m
+  split_takes b c l r p o v e f = ap (λ t. suc (turns_in t)) (sym f) ∙ leaf-turns b (stage b) o v refl e
+
+  pub join_returns : JoinReturns m
+  join_returns b l r p x y e f =
+      let same : turns_in (lone_task (lone_of (resumed m b (join_of m b p x y)))) ≡ turns_in (resumed m b (join_of m b p x y)) = ap turns_in (joined-held m b (join_of m b p x y)) in
+      let both = joined-turns b p x y in
+      let first : l.turns ≡ turns_of x = final-turns (Leaf l) x e in
+      let second : r.turns ≡ turns_of y = final-turns (Leaf r) y f in
+      omega arith
+
+  pub asks_at_leaf : AsksAtLeaf m
+  asks_at_leaf x o e n = asks-leaf (lone_way x) (lone_task x) o e n
