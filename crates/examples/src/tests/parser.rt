@@ -19,10 +19,11 @@ struct Parsed {
 
 /// Lexes and parses a text of a test, which is short.
 fn parse_short(alloc: Global, text: &[u8]) -> Result<Parsed, Fail> {
-    let tokens = lex(alloc, short(text))?;
+    let text = short(text);
+    let tokens = lex(alloc, text)?;
     Ok(Parsed {
         count: tokens.len(),
-        answer: parse(alloc, short(text), tokens.as_slice()),
+        answer: parse(alloc, text, tokens.as_slice()),
     })
 }
 

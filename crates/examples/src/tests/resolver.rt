@@ -11,8 +11,9 @@ use std::test::Fail;
 
 /// The unit of a short text without a fault.
 fn unit_of(alloc: Global, text: &[u8]) -> Result<Unit, Fail> {
-    let tokens = lex(alloc, short(text))?;
-    let program = parse(alloc, short(text), tokens.as_slice())?;
+    let text = short(text);
+    let tokens = lex(alloc, text)?;
+    let program = parse(alloc, text, tokens.as_slice())?;
     Ok(resolve(alloc, program)?)
 }
 
