@@ -3,8 +3,6 @@
 ghost use Rattle.std.specs.Prelude.{length, ◌≤◌};
 
 mod lexer;
-mod parser;
-mod resolver;
 mod top;
 
 use perm_lex::MOST_BYTES;
