@@ -1,5 +1,5 @@
 -- The text of a dump: a line for each object that is reached, in the order of their numbers.
-use Rattle.std.specs.Prelude.{◌≡◌, ℕ, suc, Bool, true, false, List, [], ◌∷◌, ◌++◌, length, get_or, slice_get, Option, Some, None, decimal, flat_map, codes}
+use Rattle.std.specs.Prelude.{◌≡◌, ℕ, suc, Bool, List, [], ◌∷◌, ◌++◌, length, slice_get, Option, Some, None, decimal, flat_map, codes}
 use Rattle.std.specs.Fmt.{signed_decimal}
 use Rattle.std.specs.List.{position_or_len}
 use Rattle.perm_tree.specs.declared.ast.Shape.{Shape}
@@ -7,22 +7,14 @@ use Rattle.perm_tree.specs.declared.ast.Shape.TheVariants.{Class, Array}
 use Rattle.perm_tree.specs.declared.ast.ClassDecl.{ClassDecl}
 use Rattle.perm_tree.specs.declared.ast.FieldDecl.{FieldDecl}
 use Rattle.perm_tree.specs.Places.{Listing}
+use Rattle.perm_tree.specs.Printer.Expressions.{word, truth_text}
 use Rattle.perm_meaning.specs.Values.{Value, Number, Truth, Null, Reference}
 use Rattle.perm_meaning.specs.Objects.{Object, Objects}
 use Rattle.perm_canon.specs.Numbering.{IsNumbering}
 
--- `true` or `false`
-abbrev pub truth_text : Bool → List ℕ
-truth_text true = codes "true"
-truth_text false = codes "false"
-
 -- `#K`
 abbrev pub number_text : ℕ → List ℕ
 number_text k = codes "#" ++ decimal k
-
--- the bytes of a name by its number
-abbrev pub name_text : Listing → ℕ → List ℕ
-name_text p n = get_or p.names n []
 
 module _ {R : Type 0} (same : R → R → Bool) (p : Listing) (order : List R) where
   -- a decimal number, `true`, `false`, `null`, or `#K`
@@ -34,13 +26,13 @@ module _ {R : Type 0} (same : R → R → Bool) (p : Listing) (order : List R) w
 
   -- ` FIELD=VALUE` for each field
   abbrev pub fields_text : List FieldDecl → List (Value R) → List ℕ
-  fields_text (f ∷ fs) (v ∷ vs) = codes " " ++ (name_text p f.name.name ++ (codes "=" ++ (value_text v ++ fields_text fs vs)))
+  fields_text (f ∷ fs) (v ∷ vs) = codes " " ++ (word p.names f.name.name ++ (codes "=" ++ (value_text v ++ fields_text fs vs)))
   fields_text _ _ = []
 
   -- `CLASS` and its fields
   abbrev pub class_text : Option ClassDecl → List (Value R) → List ℕ
   class_text None vs = []
-  class_text (Some c) vs = name_text p c.name.name ++ fields_text c.fields vs
+  class_text (Some c) vs = word p.names c.name.name ++ fields_text c.fields vs
 
   -- that, or `long[N]` and its elements
   abbrev pub object_text : Shape → List (Value R) → List ℕ

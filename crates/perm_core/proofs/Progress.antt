@@ -21,7 +21,7 @@ use Rattle.perm_rules.specs.Sorts.{Sort, Typed, sort_if, term_sort, isnt_plain, 
 use Rattle.perm_meaning.specs.Values.{Value, Number, Truth, Null, Reference, Eval, Gives, Traps, Mistyped}
 use Rattle.perm_meaning.specs.Names.{Name, Mark}
 use Rattle.perm_meaning.specs.Expressions.{tagged, held, look_up, cleared_slot, clear, eval}
-use Rattle.perm_meaning.specs.Effects.{Tick, Load, Store, Take, Make, Act, Effect, Does, Sticks, depth_limit, ticks, halts, on_value, if_number, on_number, on_referred, on_object, on_argument, on_arguments, on_index, on_length, on_call, below_limit}
+use Rattle.perm_meaning.specs.Effects.{Tick, Load, Store, Take, Make, Act, Resumption, Does, Sticks, depth_limit, ticks, halts, on_value, if_number, on_number, on_referred, on_object, on_argument, on_arguments, on_index, on_length, on_call, below_limit}
 use Rattle.perm_tree.specs.Shapes.{same_shape}
 use Rattle.perm_tree.specs.declared.ast.Shape.{Shape}
 use Rattle.perm_rules.specs.Parts.{field_among}
@@ -58,21 +58,21 @@ module _ (h : Objects Name) where
   IsThere (Make by shape n) = Unit {0}
 
   -- the effect isn't stuck
-  abbrev pub GoesOn : Effect Held Name Mark → Type 0
+  abbrev pub GoesOn : Resumption Held Name Mark → Type 0
   GoesOn (Does o told) = IsThere o
   GoesOn Sticks = ⊥
 
-  pub value-goes : (s : Sort) (e : Eval Held) (go : Held → Effect Held Name Mark) → Evaluates s e → ((v : Value Name) → IsOfSort s v → e ≡ Gives (Some v) → GoesOn (go (Some v))) → GoesOn (on_value tagged e go)
+  pub value-goes : (s : Sort) (e : Eval Held) (go : Held → Resumption Held Name Mark) → Evaluates s e → ((v : Value Name) → IsOfSort s v → e ≡ Gives (Some v) → GoesOn (go (Some v))) → GoesOn (on_value tagged e go)
   value-goes s (Gives None) go is k = absurd is
   value-goes s (Gives (Some v)) go is k = k v is refl
   value-goes s (Traps t) go is k = tt
   value-goes s Mistyped go is k = absurd is
 
-  pub number-goes : (s : Sort) (e : Eval Held) (go : ℤ → Effect Held Name Mark) → Evaluates s e → isnt_plain s Long ≡ false → ((n : ℤ) → GoesOn (go n)) → GoesOn (on_number tagged e go)
+  pub number-goes : (s : Sort) (e : Eval Held) (go : ℤ → Resumption Held Name Mark) → Evaluates s e → isnt_plain s Long ≡ false → ((n : ℤ) → GoesOn (go n)) → GoesOn (on_number tagged e go)
   number-goes s e go is plain k =
       value-goes s e (λ v. if_number tagged (tagged.as_number v) go) is (λ v of q. (let x = plain-long s v of plain in subst (λ z. GoesOn (if_number tagged (tagged.as_number (Some z)) go)) (sym x.1) (k x.0)))
 
-  pub index-goes : (i : ℤ) (n : ℕ) (go : ℕ → Effect Held Name Mark) → ((f : ℕ) → nat_lt f n ≡ true → GoesOn (go f)) → GoesOn (on_index tagged i n go)
+  pub index-goes : (i : ℤ) (n : ℕ) (go : ℕ → Resumption Held Name Mark) → ((f : ℕ) → nat_lt f n ≡ true → GoesOn (go f)) → GoesOn (on_index tagged i n go)
   index-goes (negsuc i) n go k = tt
   index-goes (pos i) n go k = within (nat_lt i n) refl
     where
@@ -80,7 +80,7 @@ module _ (h : Objects Name) where
       within true q = k i q
       within false q = tt
 
-  pub length-goes : (i : ℤ) (go : ℕ → Effect Held Name Mark) → ((n : ℕ) → GoesOn (go n)) → GoesOn (on_length tagged i go)
+  pub length-goes : (i : ℤ) (go : ℕ → Resumption Held Name Mark) → ((n : ℕ) → GoesOn (go n)) → GoesOn (on_length tagged i go)
   length-goes (pos n) go k = k n
   length-goes (negsuc n) go k = tt
 
@@ -94,7 +94,7 @@ module _ (h : Objects Name) where
   -- ---------- variables, arguments and calls ----------
   module _ (c : Context) where
     -- a variable of a reference type that is live refers to null or to an object
-    pub object-goes : (G : Vars) (vs : List Held) (y : ℕ) (p : _) (s : _) (go : Name → ℕ → Effect Held Name Mark) → AreTyped c G vs → dead G y ≡ false → type_of c y ≡ Some (Ref p s)
+    pub object-goes : (G : Vars) (vs : List Held) (y : ℕ) (p : _) (s : _) (go : Name → ℕ → Resumption Held Name Mark) → AreTyped c G vs → dead G y ≡ false → type_of c y ≡ Some (Ref p s)
         → ((r : Name) (n : ℕ) → slice_get vs y ≡ Some (Some (Reference r n)) → GoesOn (go r n)) → GoesOn (on_object tagged vs y go)
     object-goes G vs y p s go typed live type k = found (typed y (not-false (G y) live))
       where
@@ -107,7 +107,7 @@ module _ (h : Objects Name) where
             value Null is q = tt
             value (Reference r n) is q = k r n q
 
-    pub argument-goes : (G : Vars) (vs : List Held) (a : Argument) (go : Held → List Held → Effect Held Name Mark) → AreTyped c G vs → any_in_argument (dead G) a ≡ false → argument_wrong c a ≡ false
+    pub argument-goes : (G : Vars) (vs : List Held) (a : Argument) (go : Held → List Held → Resumption Held Name Mark) → AreTyped c G vs → any_in_argument (dead G) a ≡ false → argument_wrong c a ≡ false
         → ((v : Held) (ws : List Held) → AreTyped c (after_argument a G) ws → Lose vs ws → GoesOn (go v ws)) → GoesOn (on_argument tagged a vs go)
     argument-goes G vs (Expression e) go typed live right k = value-goes (term_sort c e) (eval tagged e vs) (λ v. go v vs) (term-evaluates c G vs typed e live right) (λ v is q. k (Some v) vs (none-lost) (λ y v e. e))
       where
@@ -120,7 +120,7 @@ module _ (h : Objects Name) where
     argument-goes G vs (Consumed y) go typed live right k =
         value-goes (sort_if (type_of c y)) (look_up tagged vs y) (λ v. go v (clear tagged vs y)) (variable-evaluates c G vs typed y live) (λ v is q. k (Some v) (clear tagged vs y) (clear-typed c G vs y typed) (clear-loses vs y))
 
-    arguments-go : (args : List Argument) (G : Vars) (found vs : List Held) (go : List Held → List Held → Effect Held Name Mark) → AreTyped c G vs → arguments_gone args G ≡ false → list_any (argument_wrong c) args ≡ false
+    arguments-go : (args : List Argument) (G : Vars) (found vs : List Held) (go : List Held → List Held → Resumption Held Name Mark) → AreTyped c G vs → arguments_gone args G ≡ false → list_any (argument_wrong c) args ≡ false
         → ((more ws : List Held) → length more ≡ length found + length args → AreTyped c (after_arguments args G) ws → GoesOn (go more ws)) → GoesOn (on_arguments tagged args found vs go)
     arguments-go [] G found vs go typed live right k = let same : length found ≡ length found + 0 = omega arith in k found vs same typed
     arguments-go (a ∷ rest) G found vs go typed live right k =
@@ -132,11 +132,11 @@ module _ (h : Objects Name) where
         longer : (v : Held) (more : List Held) → length more ≡ length (found ++ v ∷ []) + length rest → length more ≡ length found + length (a ∷ rest)
         longer v more e = let n = length-append found (v ∷ []) in omega (arith, e, n)
 
-    receiver-goes : (G : Vars) (vs : List Held) (y : ℕ) (p : _) (s : _) (go : Held → Effect Held Name Mark) → AreTyped c G vs → dead G y ≡ false → type_of c y ≡ Some (Ref p s) → ((v : Value Name) → IsOfType (Ref p s) v → GoesOn (go (Some v))) → GoesOn (on_value tagged (look_up tagged vs y) go)
+    receiver-goes : (G : Vars) (vs : List Held) (y : ℕ) (p : _) (s : _) (go : Held → Resumption Held Name Mark) → AreTyped c G vs → dead G y ≡ false → type_of c y ≡ Some (Ref p s) → ((v : Value Name) → IsOfType (Ref p s) v → GoesOn (go (Some v))) → GoesOn (on_value tagged (look_up tagged vs y) go)
     receiver-goes G vs y p s go typed live type k =
         value-goes (Typed (Ref p s)) (look_up tagged vs y) go (subst (λ z. Evaluates (sort_if z) (look_up tagged vs y)) type (variable-evaluates c G vs typed y live)) (λ v is q. k v is)
 
-    pub call-goes : (consumed : Bool) (y : ℕ) (args : List Argument) (G : Vars) (vs : List Held) (p : _) (s : _) (go : Held → List Held → List Held → Effect Held Name Mark) → AreTyped c G vs → call_gone consumed y args G ≡ false → list_any (argument_wrong c) args ≡ false
+    pub call-goes : (consumed : Bool) (y : ℕ) (args : List Argument) (G : Vars) (vs : List Held) (p : _) (s : _) (go : Held → List Held → List Held → Resumption Held Name Mark) → AreTyped c G vs → call_gone consumed y args G ≡ false → list_any (argument_wrong c) args ≡ false
         → type_of c y ≡ Some (Ref p s) → ((this : Value Name) (found ws : List Held) → IsOfType (Ref p s) this → length found ≡ length args → GoesOn (go (Some this) found ws)) → GoesOn (on_call tagged consumed y args vs go)
     call-goes true y args G vs p s go typed live right type k =
         let l = or_parts (dead G y) (arguments_gone args (minus G (just y))) live in

@@ -8,7 +8,7 @@ use Rattle.perm_tree.specs.Code.{Argument, Expression, Consumed, Instruction, As
 use Rattle.perm_tree.specs.Vars.{Vars, meet}
 use Rattle.perm_rules.specs.declared.ParMode.{ParMode}
 use Rattle.perm_rules.specs.declared.ParMode.TheVariants.{Symmetric, LeftAlone, RightAlone}
-use Rattle.perm_rules.specs.Parts.{Context, type_of, field_in, has_isolated}
+use Rattle.perm_rules.specs.Parts.{Context, type_of, type_of_field, has_isolated}
 use Rattle.perm_rules.specs.Pars.{isolated_vars}
 use Rattle.perm_meaning.specs.Values.{Reference}
 use Rattle.perm_meaning.specs.Names.{Name, Mark, same_name, next_name, input_name, root_name}
@@ -170,12 +170,12 @@ module _ (u : UnitCode) (labels : Labels) where
   abbrev pub instruction_change : Context → Way → Zone → Branch → Instruction → Change
   instruction_change c w z b (Assign x a) = moving (consumed_moves c w (calls b.stack) a (goal_at c w z b.stack x))
   instruction_change c w z b (LoadField x y f) =
-      cond (is_immutable (type_of c y)) (cond (has_isolated (field_in c.classes (type_of c y) f)) (moving (Moves (field_region (slice_get b.own.vars y) f) Frozen ∷ [])) no_change) no_change
+      cond (is_immutable (type_of c y)) (cond (has_isolated (type_of_field c.classes (type_of c y) f)) (moving (Moves (field_region (slice_get b.own.vars y) f) Frozen ∷ [])) no_change) no_change
   instruction_change c w z b (TakeField x y f) = moving (Moves (field_region (slice_get b.own.vars y) f) (goal_at c w z b.stack x) ∷ [])
   instruction_change c w z b (NewObject x k) = new_label c w z b x
   instruction_change c w z b (NewArray x n) = new_label c w z b x
   instruction_change c w z b (StoreField y f a) =
-      moving (consumed_moves c w (calls b.stack) a (goal_of (field_in c.classes (type_of c y) f) (field_region (slice_get b.own.vars y) f) (region_of (slice_get b.own.vars y))))
+      moving (consumed_moves c w (calls b.stack) a (goal_of (type_of_field c.classes (type_of c y) f) (field_region (slice_get b.own.vars y) f) (region_of (slice_get b.own.vars y))))
   instruction_change c w z b (Invoke into tie consumed y m args) = moving (call_moves c w z b.stack tie consumed y args (slice_get u.routines m))
   instruction_change c w z b _ = no_change
 
@@ -196,13 +196,13 @@ module _ (u : UnitCode) (labels : Labels) where
 
   -- ---------- pars ----------
   -- the numbers below n that are in the set, from k on
-  abbrev pub numbers : ℕ → ℕ → Vars → List ℕ
-  numbers zero k G = []
-  numbers (suc n) k G = cond (G k) (k ∷ numbers n (suc k) G) (numbers n (suc k) G)
+  abbrev pub members_from : ℕ → ℕ → Vars → List ℕ
+  members_from zero k G = []
+  members_from (suc n) k G = cond (G k) (k ∷ members_from n (suc k) G) (members_from n (suc k) G)
 
   -- the isolated variables of the set
   abbrev pub isolated_among : Context → Vars → List ℕ
-  isolated_among c G = numbers (length c.vars) 0 (meet (isolated_vars c) G)
+  isolated_among c G = members_from (length c.vars) 0 (meet (isolated_vars c) G)
 
   -- isolated variables are handed from a frame at one node to a frame at another
   abbrev pub handed : Way → ℕ → Way → ℕ → List ℕ → Renamings

@@ -75,38 +75,38 @@ module _ {V G : Type 0} where
 
 -- ---------- numbered trees ----------
 -- a tree in which each waiting parent bears a number or has a side kept aside. Below one without a number none bears one
-pub data Held (V G : Type 0) : Type 0 where
-  One : (x : Lone V G) → Held V G
-  Two : (w : Numbered V G) (l r : Held V G) → Held V G
+pub data NumberedTree (V G : Type 0) : Type 0 where
+  One : (x : Lone V G) → NumberedTree V G
+  Two : (w : Numbered V G) (l r : NumberedTree V G) → NumberedTree V G
 
 module _ {V G : Type 0} where
   -- the tree itself
-  abbrev pub held_task : Held V G → Task V G
+  abbrev pub held_task : NumberedTree V G → Task V G
   held_task (One x) = lone_task x
   held_task (Two w l r) = Fork w.branch w.blocks (held_task l) (held_task r)
 
   -- the pieces of a numbered tree below these parents
-  abbrev pub cut : Foot → List (Numbered V G) → Held V G → List (Piece V G)
+  abbrev pub cut : Foot → List (Numbered V G) → NumberedTree V G → List (Piece V G)
   cut foot parents (One x) = record { foot = foot; parents = parents; own = x } ∷ []
   cut foot parents (Two w l r) = cut foot (w ∷ parents) l ++ cut (OnRightSide (Some w.number)) [] r
 
   -- the pieces of a numbered tree
-  abbrev pub pieces : Held V G → List (Piece V G)
+  abbrev pub pieces : NumberedTree V G → List (Piece V G)
   pieces h = cut AtRoot [] h
 
   -- the numbers that are borne
-  abbrev pub numbers : Held V G → List ℕ
+  abbrev pub numbers : NumberedTree V G → List ℕ
   numbers (One x) = []
   numbers (Two w l r) = w.number ∷ (numbers l ++ numbers r)
 
   -- the left sides that are kept aside have ended
-  abbrev pub AllOver : Held V G → Type 0
+  abbrev pub AllOver : NumberedTree V G → Type 0
   AllOver (One x) = AreOver x
   AllOver (Two w l r) = AllOver l × AllOver r
 
-  -- the numbering of a tree: no number is borne twice
-  pub record IsNumbering (t : Task V G) (h : Held V G) : Type 0 where
-    pub whole : held_task h ≡ t
+  -- a numbering of a tree: no number is borne twice, and the left sides that are kept aside have ended
+  pub record IsTreeNumbering (t : Task V G) (h : NumberedTree V G) : Type 0 where
+    pub task : held_task h ≡ t
     pub once : IsDistinct (numbers h)
     pub over : AllOver h
 
@@ -121,7 +121,7 @@ module _ {V G : Type 0} where
   IsAside (KeptLeft b p l r) (GoR w) = IsAside r w
 
   -- the same in a numbered tree
-  abbrev pub IsAsideIn : Held V G → Way → Type 0
+  abbrev pub IsAsideIn : NumberedTree V G → Way → Type 0
   IsAsideIn (One x) w = IsAside x w
   IsAsideIn (Two n l r) Here = ⊥
   IsAsideIn (Two n l r) (GoL w) = IsAsideIn l w

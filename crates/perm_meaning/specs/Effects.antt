@@ -35,9 +35,9 @@ pub data Act (V G : Type 0) : Type 0 where
   Halts : (k : TrapKind) → Act V G
 
 -- one operation, and what is done by what it finds; or nothing, where a value or a member that is needed isn't there
-pub data Effect (V R G : Type 0) : Type 0 where
-  Does : (o : Op V R G) (told : V → Act V G) → Effect V R G
-  Sticks : Effect V R G
+pub data Resumption (V R G : Type 0) : Type 0 where
+  Does : (o : Op V R G) (told : V → Act V G) → Resumption V R G
+  Sticks : Resumption V R G
 
 -- open calls and par branches of one path
 abbrev pub depth_limit : ℕ
@@ -54,11 +54,11 @@ first_vars k r this args = this ∷ (args ++ replicate (length r.vars - (1 + len
 
 module _ {V R G : Type 0} (k : Reading V R) where
   -- an effect that asks nothing of the heap
-  abbrev pub ticks : Act V G → Effect V R G
+  abbrev pub ticks : Act V G → Resumption V R G
   ticks a = Does Tick (λ w. a)
 
   -- a trap before the heap is asked
-  abbrev pub halts : TrapKind → Effect V R G
+  abbrev pub halts : TrapKind → Resumption V R G
   halts t = ticks (Halts t)
 
   -- the same branch with other variables
@@ -67,68 +67,68 @@ module _ {V R G : Type 0} (k : Reading V R) where
 
   -- ---------- what is needed of values ----------
   -- go on with a value, or trap
-  abbrev pub on_value : Eval V → (V → Effect V R G) → Effect V R G
+  abbrev pub on_value : Eval V → (V → Resumption V R G) → Resumption V R G
   on_value (Gives v) go = go v
   on_value (Traps t) go = halts t
   on_value Mistyped go = Sticks
 
   -- go on with a number, if it is one
-  abbrev pub if_number : Option ℤ → (ℤ → Effect V R G) → Effect V R G
+  abbrev pub if_number : Option ℤ → (ℤ → Resumption V R G) → Resumption V R G
   if_number None go = Sticks
   if_number (Some n) go = go n
 
   -- go on with the number that an expression gives
-  abbrev pub on_number : Eval V → (ℤ → Effect V R G) → Effect V R G
+  abbrev pub on_number : Eval V → (ℤ → Resumption V R G) → Resumption V R G
   on_number e go = on_value e (λ v. if_number (k.as_number v) go)
 
   -- go on with what is referred to and its length, or trap at null
-  abbrev pub on_referred : Referred R → (R → ℕ → Effect V R G) → Effect V R G
+  abbrev pub on_referred : Referred R → (R → ℕ → Resumption V R G) → Resumption V R G
   on_referred (ToObject r n) go = go r n
   on_referred ToNull go = halts NullReference
   on_referred NoReference go = Sticks
 
   -- go on with what a variable refers to
-  abbrev pub on_object : List V → ℕ → (R → ℕ → Effect V R G) → Effect V R G
+  abbrev pub on_object : List V → ℕ → (R → ℕ → Resumption V R G) → Resumption V R G
   on_object vs y go = on_value (look_up k vs y) (λ v. on_referred (k.as_reference v) go)
 
   -- an argument's value, and the variables after it
-  abbrev pub on_argument : Argument → List V → (V → List V → Effect V R G) → Effect V R G
+  abbrev pub on_argument : Argument → List V → (V → List V → Resumption V R G) → Resumption V R G
   on_argument (Expression e) vs go = on_value (eval k e vs) (λ v. go v vs)
   on_argument (Consumed y) vs go = on_value (look_up k vs y) (λ v. go v (clear k vs y))
 
   -- the values of arguments from left to right, behind those that are found already
-  abbrev pub on_arguments : List Argument → List V → List V → (List V → List V → Effect V R G) → Effect V R G
+  abbrev pub on_arguments : List Argument → List V → List V → (List V → List V → Resumption V R G) → Resumption V R G
   on_arguments [] found vs go = go found vs
   on_arguments (a ∷ rest) found vs go = on_argument a vs (λ v vs. on_arguments rest (found ++ v ∷ []) vs go)
 
   -- the place of an index within a length
-  abbrev pub on_index : ℤ → ℕ → (ℕ → Effect V R G) → Effect V R G
+  abbrev pub on_index : ℤ → ℕ → (ℕ → Resumption V R G) → Resumption V R G
   on_index (pos i) n go = cond (nat_lt i n) (go i) (halts IndexOutOfRange)
   on_index (negsuc i) n go = halts IndexOutOfRange
 
   -- the length of a new array isn't negative
-  abbrev pub on_length : ℤ → (ℕ → Effect V R G) → Effect V R G
+  abbrev pub on_length : ℤ → (ℕ → Resumption V R G) → Resumption V R G
   on_length (pos n) go = go n
   on_length (negsuc n) go = halts Overflow
 
   -- the number of fields of a class
-  abbrev pub on_class : Option (List Ty) → (ℕ → Effect V R G) → Effect V R G
+  abbrev pub on_class : Option (List Ty) → (ℕ → Resumption V R G) → Resumption V R G
   on_class None go = Sticks
   on_class (Some ts) go = go (length ts)
 
   -- ---------- calls ----------
   -- a receiver that is consumed comes first, and one that isn't comes last
-  abbrev pub on_call : Bool → ℕ → List Argument → List V → (V → List V → List V → Effect V R G) → Effect V R G
+  abbrev pub on_call : Bool → ℕ → List Argument → List V → (V → List V → List V → Resumption V R G) → Resumption V R G
   on_call true y args vs go = on_value (look_up k vs y) (λ this. on_arguments args [] (clear k vs y) (λ found vs. go this found vs))
   on_call false y args vs go = on_arguments args [] vs (λ found vs. on_value (look_up k vs y) (λ this. go this found vs))
 
   -- a method that takes so many arguments
-  abbrev pub on_routine : Option Routine → List V → (Routine → Effect V R G) → Effect V R G
+  abbrev pub on_routine : Option Routine → List V → (Routine → Resumption V R G) → Resumption V R G
   on_routine None args go = Sticks
   on_routine (Some r) args go = choose (nat_eq (length args) (length r.params)) go (λ r. Sticks) r
 
   -- a call at the depth limit traps
-  abbrev pub below_limit : ℕ → Act V G → Effect V R G
+  abbrev pub below_limit : ℕ → Act V G → Resumption V R G
   below_limit depth a = cond (nat_lt depth depth_limit) (ticks a) (halts StackOverflow)
 
   -- ---------- objects ----------
@@ -137,7 +137,7 @@ module _ {V R G : Type 0} (k : Reading V R) where
   made g x l w = GoesOn (record l { vars = assign l.vars x w; mark = g.after_object l.mark })
 
   -- a new object of n values is made for x
-  abbrev pub makes : Marks G → ℕ → Shape → ℕ → Own V G → Effect V R G
+  abbrev pub makes : Marks G → ℕ → Shape → ℕ → Own V G → Resumption V R G
   makes g x shape n l = Does (Make l.mark shape n) (made g x l)
 
   -- what is found comes into x
@@ -146,7 +146,7 @@ module _ {V R G : Type 0} (k : Reading V R) where
 
   -- ---------- the table ----------
   -- expressions come first, then the test for null, then that of an index, then the heap word
-  abbrev pub effect : UnitCode → Marks G → Instruction → Own V G → Effect V R G
+  abbrev pub effect : UnitCode → Marks G → Instruction → Own V G → Resumption V R G
   effect u g (Declare x) l = ticks (GoesOn (with_vars l (clear k l.vars x)))
   effect u g (Assign x a) l = on_argument a l.vars (λ v vs. ticks (into_var x vs l v))
   effect u g (LoadField x y f) l = on_object l.vars y (λ r n. Does (Load r f) (into_var x l.vars l))

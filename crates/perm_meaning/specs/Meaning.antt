@@ -8,7 +8,7 @@ use Rattle.perm_meaning.specs.Values.{Eval, Gives, Traps, Mistyped}
 use Rattle.perm_meaning.specs.Expressions.{tagged, assign, assign_into, look_up, clear, clear_all, eval, value_of}
 use Rattle.perm_meaning.specs.Names.{Name, Mark, Side, OnLeft, OnRight, side_mark, after_par}
 use Rattle.perm_meaning.specs.Machine.{Blocks, Failure, Trapped, NoTurns, Final, Fine, GaveBack, Failed, join_final}
-use Rattle.perm_meaning.specs.Effects.{Act, GoesOn, Calls, Halts, Effect, Does, Sticks, choose, depth_limit, effect}
+use Rattle.perm_meaning.specs.Effects.{Act, GoesOn, Calls, Halts, Resumption, Does, Sticks, choose, depth_limit, effect}
 use Rattle.perm_meaning.specs.Custody.{merged, writes_l, writes_r}
 use Rattle.perm_meaning.specs.Turns.{blocks}
 use Rattle.perm_meaning.specs.NamedHeap.{Heap, Held, Op, Own, marks, find, after}
@@ -147,7 +147,7 @@ module _ (u : UnitCode) (fits : ℕ → Bool) (again : Code → Moment → Resul
   answered Missing o at told m = Stuck
 
   -- the effect of a simple statement at a moment
-  abbrev pub doing : Span → Effect Held Name Mark → Moment → Result
+  abbrev pub doing : Span → Resumption Held Name Mark → Moment → Result
   doing at (Does o told) m = answered (find fits o m.heap) o at told m
   doing at Sticks m = Stuck
 

@@ -7,7 +7,7 @@ use Rattle.perm_tree.specs.Code.{Code, End, Give, Return, Do, If, While, Par, Re
 use Rattle.perm_meaning.specs.Values.{Eval, Gives, Traps, Mistyped}
 use Rattle.perm_meaning.specs.Expressions.{Reading, assign, assign_into, look_up, clear, clear_all, eval, value_of}
 use Rattle.perm_meaning.specs.Machine.{Own, Frame, OpenBlock, OpenRecover, OpenCall, Blocks, Trapped, Marks, Did, On, Splits, Ends, Dies, Turn, Takes, NoTurn, Machine}
-use Rattle.perm_meaning.specs.Effects.{Op, Tick, Calling, Act, GoesOn, Calls, Halts, Effect, Does, Sticks, depth_limit, effect, with_vars}
+use Rattle.perm_meaning.specs.Effects.{Op, Tick, Calling, Act, GoesOn, Calls, Halts, Resumption, Does, Sticks, depth_limit, effect, with_vars}
 use Rattle.perm_meaning.specs.Custody.{Custody, parting, within_recover, laid_by, back_from_recover, while_called, lent_by}
 
 -- the two blocks of a par
@@ -50,7 +50,7 @@ module _ {V R G : Type 0} (k : Reading V R) (c : Custody) where
   acted at rest st (Halts t) = Dies (Trapped t at)
 
   -- the turn of a simple statement
-  abbrev pub turn_of : Span → Code → List (Frame V) → Effect V R G → Turn V G (Op V R G)
+  abbrev pub turn_of : Span → Code → List (Frame V) → Resumption V R G → Turn V G (Op V R G)
   turn_of at rest st (Does o told) = Takes o (λ w. acted at rest st (told w))
   turn_of at rest st Sticks = NoTurn
 

@@ -2,7 +2,7 @@
 use Rattle.std.specs.Prelude.{ℕ, Bool, true, false, not, ◌||◌, List, Option, Some, None, slice_get}
 use Rattle.perm_tree.specs.declared.ast.Perm.{Perm}
 use Rattle.perm_tree.specs.declared.ast.Perm.TheVariants.{Isolated}
-use Rattle.perm_tree.specs.declared.ast.Shape.TheVariants.{Class, Array}
+use Rattle.perm_tree.specs.declared.ast.Shape.TheVariants.{Class}
 use Rattle.perm_tree.specs.declared.ast.Ty.{Ty}
 use Rattle.perm_tree.specs.declared.ast.Ty.TheVariants.{Ref}
 use Rattle.perm_tree.specs.Code.{Term, Argument, Instruction, Routine}
@@ -46,13 +46,13 @@ field_among None f = None
 field_among (Some fields) f = slice_get fields f
 
 -- the same in the class of a type
-abbrev pub field_in : List (List Ty) → Option Ty → ℕ → Option Ty
-field_in classes (Some (Ref p (Class k))) f = field_among (slice_get classes k) f
-field_in classes _ f = None
+abbrev pub type_of_field : List (List Ty) → Option Ty → ℕ → Option Ty
+type_of_field classes (Some (Ref p (Class k))) f = field_among (slice_get classes k) f
+type_of_field classes _ f = None
 
 -- the declared type of field f in the class of the variable y
 abbrev pub field_type : Context → ℕ → ℕ → Option Ty
-field_type c y f = field_in c.classes (type_of c y) f
+field_type c y f = type_of_field c.classes (type_of c y) f
 
 -- the type is known, and passes a test
 abbrev pub if_known : Option Ty → (Ty → Bool) → Bool
@@ -88,11 +88,6 @@ is_reference _ = false
 abbrev pub is_object : Ty → Bool
 is_object (Ref p (Class k)) = true
 is_object _ = false
-
--- a reference to an array
-abbrev pub is_long_array : Ty → Bool
-is_long_array (Ref p Array) = true
-is_long_array _ = false
 
 -- `long` or `bool`
 abbrev pub isnt_reference : Ty → Bool

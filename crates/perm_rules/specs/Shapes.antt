@@ -6,7 +6,8 @@ use Rattle.perm_tree.specs.declared.ast.Shape.TheVariants.{Class, Array}
 use Rattle.perm_tree.specs.declared.ast.Ty.{Ty}
 use Rattle.perm_tree.specs.declared.ast.Ty.TheVariants.{Long, Ref}
 use Rattle.perm_tree.specs.Code.{Argument, Instruction, Declare, Assign, LoadField, LoadLength, LoadItem, TakeField, NewObject, NewArray, StoreField, StoreItem, Invoke, Print, Routine}
-use Rattle.perm_rules.specs.Parts.{Context, Part, Simple, Condition, ParHead, RecoverHead, Given, Returned, any_in_part, type_of, field_type, if_known, if_both_known, has_isolated, is_object, is_long_array, isnt_reference}
+use Rattle.perm_tree.specs.Lookup.{is_array}
+use Rattle.perm_rules.specs.Parts.{Context, Part, Simple, Condition, ParHead, RecoverHead, Given, Returned, any_in_part, type_of, field_type, if_known, if_both_known, has_isolated, is_object, isnt_reference}
 use Rattle.perm_rules.specs.Sorts.{argument_sort, argument_wrong, isnt_value_of, differ, isnt_long, isnt_bool}
 
 -- ---------- names that aren't known ----------
@@ -47,7 +48,7 @@ isnt_object c y = if_known (type_of c y) (λ t. not (is_object t))
 
 -- the variable y is known to be no array
 abbrev pub isnt_array : Context → ℕ → Bool
-isnt_array c y = if_known (type_of c y) (λ t. not (is_long_array t))
+isnt_array c y = if_known (type_of c y) (λ t. not (is_array (Some t)))
 
 -- two known types differ in more than permissions
 abbrev pub shapes_differ : Option Ty → Option Ty → Bool

@@ -7,7 +7,7 @@ use Rattle.perm_tree.specs.declared.ast.Ty.{Ty}
 use Rattle.perm_tree.specs.declared.errors.TrapKind.{TrapKind}
 use Rattle.perm_tree.specs.BodyTerms.{HasFields}
 use Rattle.perm_tree.specs.Code.{Argument, Expression, Consumed, LoadField, NewObject, StoreField, UnitCode}
-use Rattle.perm_meaning.specs.Effects.{Effect, Does, Sticks, Make, Load, Store, GoesOn, on_argument, on_value, on_referred, on_object, on_class, made, with_vars, into_var}
+use Rattle.perm_meaning.specs.Effects.{Resumption, Does, Sticks, Make, Load, Store, GoesOn, on_argument, on_value, on_referred, on_object, on_class, made, with_vars, into_var}
 use Rattle.perm_meaning.specs.Steps.{Found}
 use Rattle.perm_meaning.specs.Expressions.{clear, eval, look_up, value_of}
 use Rattle.perm_meaning.specs.Objects.{size}
@@ -46,18 +46,18 @@ module _ (u : UnitCode) (m : Workspace) where
 
   -- ---------- objects that variables hold ----------
   -- nothing is done through null
-  null_stops : (r : Referred ℕ) (k : TrapKind) (go : ℕ → ℕ → Effect ℕ ℕ NoMark) → IsNullBy r k → StopsBy (on_referred on_words r go) m m (stops.Trap k)
+  null_stops : (r : Referred ℕ) (k : TrapKind) (go : ℕ → ℕ → Resumption ℕ ℕ NoMark) → IsNullBy r k → StopsBy (on_referred on_words r go) m m (stops.Trap k)
   null_stops (ToObject base len) k go null = absurd null
   null_stops ToNull k go null = subst (λ t. StopsBy (on_referred on_words ToNull go) m m (stops.Trap t)) (sym null) (0, refl, refl, refl, refl)
   null_stops NoReference k go null = tt
 
-  object_stops : (e : Eval ℕ) (word : ℕ) (k : TrapKind) (go : ℕ → ℕ → Effect ℕ ℕ NoMark) → IsGiven e word → IsNullBy (reference_in word) k → StopsBy (on_value on_words e (λ w. on_referred on_words (reference_in w) go)) m m (stops.Trap k)
+  object_stops : (e : Eval ℕ) (word : ℕ) (k : TrapKind) (go : ℕ → ℕ → Resumption ℕ ℕ NoMark) → IsGiven e word → IsNullBy (reference_in word) k → StopsBy (on_value on_words e (λ w. on_referred on_words (reference_in w) go)) m m (stops.Trap k)
   object_stops (Gives w) word k go given null = null_stops (reference_in w) k go (subst (λ x. IsNullBy (reference_in x) k) given null)
   object_stops (Traps t) word k go given null = absurd given
   object_stops Mistyped word k go given null = tt
 
   -- what is done with an object is done at the place of its field
-  object_goes : (e : Eval ℕ) (word f place : ℕ) (new : Workspace) (go : ℕ → ℕ → Effect ℕ ℕ NoMark) → IsGiven e word → IsPlaceBy (reference_in word) f place
+  object_goes : (e : Eval ℕ) (word f place : ℕ) (new : Workspace) (go : ℕ → ℕ → Resumption ℕ ℕ NoMark) → IsGiven e word → IsPlaceBy (reference_in word) f place
       → ((base len : ℕ) → e ≡ Gives word → reference_in word ≡ ToObject base len → place ≡ base + f → GoesOnBy u (go base len) m new) → GoesOnBy u (on_value on_words e (λ w. on_referred on_words (reference_in w) go)) m new
   object_goes (Gives w) word f place new go given at does =
       subst (λ x. GoesOnBy u (on_referred on_words (reference_in x) go) m new) given (by (reference_in word) refl at)
@@ -82,11 +82,11 @@ module _ (u : UnitCode) (m : Workspace) where
   -- ---------- `y.f = A;` ----------
   module _ (y f : ℕ) where
     -- a store of a value, with these variables
-    abbrev storing : List ℕ → ℕ → Effect ℕ ℕ NoMark
+    abbrev storing : List ℕ → ℕ → Resumption ℕ ℕ NoMark
     storing vs v = on_object on_words vs y (λ r n. Does (Store r f v) (λ w. GoesOn (with_vars on_words (own_of u m) vs)))
 
     -- what an argument leaves of the variables is what was there
-    stored-argument : (a : Argument) (word : ℕ) (P : Effect ℕ ℕ NoMark → Type 0) → IsGiven (value_of on_words a (locals m)) word → P Sticks → P (storing (locals m) word) → P (on_argument on_words a (locals m) (λ v vs. storing vs v))
+    stored-argument : (a : Argument) (word : ℕ) (P : Resumption ℕ ℕ NoMark → Type 0) → IsGiven (value_of on_words a (locals m)) word → P Sticks → P (storing (locals m) word) → P (on_argument on_words a (locals m) (λ v vs. storing vs v))
     stored-argument (Expression t) word P given sticks stores = by (eval on_words t (locals m)) given
       where
         by : (v : Eval ℕ) → IsGiven v word → P (on_value on_words v (λ v. storing (locals m) v))

@@ -6,7 +6,7 @@ use Rattle.std.proofs.lemmas.Option.{slice_get_within}
 use Rattle.perm_tree.specs.declared.ast.Shape.TheVariants.{Class}
 use Rattle.perm_tree.specs.declared.ast.Ty.{Ty}
 use Rattle.perm_tree.specs.Code.{Term, Expression, Code, Instruction, NewObject, LoadField, StoreField, Print, UnitCode}
-use Rattle.perm_meaning.specs.Effects.{Act, GoesOn, Calls, Halts, Effect, Does, Load, Store, Make, Tick, into_var, made, on_class, on_object, on_referred, on_value, on_number, makes, ticks, with_vars}
+use Rattle.perm_meaning.specs.Effects.{Act, GoesOn, Calls, Halts, Resumption, Does, Load, Store, Make, Tick, into_var, made, on_class, on_object, on_referred, on_value, on_number, makes, ticks, with_vars}
 use Rattle.perm_meaning.specs.Expressions.{eval, held}
 use Rattle.perm_meaning.specs.Objects.{size}
 use Rattle.perm_meaning.specs.Steps.{Found, Refused, within}
@@ -103,10 +103,10 @@ module _ (fields variables : ℕ) (few : fields ≤ 256) (u : UnitCode) where
   -- what goes on as an effect says that does this
   pub goes_as : (i : Instruction) (m new : Workspace) (o : Ask) (told : ℕ → Act ℕ NoMark) → effect_of u i m ≡ Does o told → GoesOnBy u (effect_of u i m) m new
       → (v : ℕ) × (find (within m.limit) o (cells_of m.words) ≡ Found v) × (told v ≡ GoesOn (own_of u new)) × (after (within m.limit) o (cells_of m.words) ≡ cells_of new.words) × KeepsPlace m new
-  goes_as i m new o told does by = subst (λ (e : Effect ℕ ℕ NoMark). GoesOnBy u e m new) does by
+  goes_as i m new o told does by = subst (λ (e : Resumption ℕ ℕ NoMark). GoesOnBy u e m new) does by
 
   -- an effect on an object that a variable holds
-  on_held : (m : Workspace) (y base : ℕ) (go : ℕ → ℕ → Effect ℕ ℕ NoMark) → slice_get (locals m) y ≡ Some (suc base) → base < 4194304 → on_object on_words (locals m) y go ≡ go base 0
+  on_held : (m : Workspace) (y base : ℕ) (go : ℕ → ℕ → Resumption ℕ ℕ NoMark) → slice_get (locals m) y ≡ Some (suc base) → base < 4194304 → on_object on_words (locals m) y go ≡ go base 0
   on_held m y base go here small =
       ap (λ (o : Option ℕ). on_value on_words (held on_words o) (λ v. on_referred on_words (reference_in v) go)) here ∙ ap (λ r. on_referred on_words r go) (referred_small base small)
 
@@ -144,7 +144,7 @@ module _ (fields variables : ℕ) (few : fields ≤ 256) (u : UnitCode) where
       makes_it : effect_of u (NewObject x c) m ≡ Does (Make tt (Class c) fields) (made on_words no_marks x (own_of u m))
       makes_it =
           ap (λ (o : Option (List Ty)). on_class on_words o (λ n. makes on_words no_marks x (Class c) n (own_of u m))) (ap (slice_get u.classes) first ∙ class)
-          ∙ ap (λ n. let e : Effect ℕ ℕ NoMark = Does (Make tt (Class c) n) (made on_words no_marks x (own_of u m)) in e) count
+          ∙ ap (λ n. let e : Resumption ℕ ℕ NoMark = Does (Make tt (Class c) n) (made on_words no_marks x (own_of u m)) in e) count
 
       within_all : x < variables
       within_all = omega (arith, straight_length fields variables (holds ++ AnObject ∷ []) rest straight, length-append holds (AnObject ∷ []))

@@ -7,7 +7,7 @@ use Rattle.perm_tree.specs.declared.errors.TrapKind.TheVariants.{StackOverflow}
 use Rattle.perm_tree.specs.Code.{Term, Argument, Code, Give, Return, Do, If, While, Par, Recover, Instruction, Tie, UnitCode}
 use Rattle.perm_tree.specs.Links.{Enclosing, InBlock, InRecover, Standing, left_ended, spot_of}
 use Rattle.perm_meaning.specs.Custody.{Copies, while_called, lent_by}
-use Rattle.perm_meaning.specs.Effects.{Tick, Effect, depth_limit, GoesOn, Calls, Calling, effect, Does, Act, Halts}
+use Rattle.perm_meaning.specs.Effects.{Tick, Resumption, depth_limit, GoesOn, Calls, Calling, effect, Does, Act, Halts}
 use Rattle.perm_meaning.specs.Expressions.{assign, assign_into, eval, look_up, value_of, clear, clear_all}
 use Rattle.perm_meaning.specs.Machine.{Frame, OpenBlock, OpenRecover, OpenCall, Leaf, Fork, leaf_op, leaf_on, stage, turn_op, told_to, Turn, Splits, On, done, Did, side_of, resumed, Fine, ended, Failing, Trapped, Here}
 use Rattle.perm_meaning.specs.Steps.{careful, asked_with_care, within}
@@ -191,7 +191,7 @@ module _ (u : UnitCode) (l : Own) (t : ℕ) (st : List Enclosing) (below : List 
   acts at i rest o told v then_own does goes_on =
       let c = Do at i rest in
       let b = before u l t st below calls c in
-      let by : Effect ℕ ℕ NoMark → Turn ℕ NoMark Ask = λ f. turn_of words Copies at rest (frames_of st ++ below) f in (
+      let by : Resumption ℕ ℕ NoMark → Turn ℕ NoMark Ask = λ f. turn_of words Copies at rest (frames_of st ++ below) f in (
         ap (λ f. turn_op (worded Copies u) (by f)) does,
         ap (λ f. told_to (worded Copies u) b t (by f) (Some v)) does
             ∙ ap (λ a. done (worded Copies u) b t (acted words Copies at rest (frames_of st ++ below) a)) goes_on
@@ -206,7 +206,7 @@ module _ (u : UnitCode) (l : Own) (t : ℕ) (st : List Enclosing) (below : List 
   calls_on at i rest o told v x then_own does called_on =
       let c = Do at i rest in
       let b = before u l t st below calls c in
-      let by : Effect ℕ ℕ NoMark → Turn ℕ NoMark Ask = λ f. turn_of words Copies at rest (frames_of st ++ below) f in
+      let by : Resumption ℕ ℕ NoMark → Turn ℕ NoMark Ask = λ f. turn_of words Copies at rest (frames_of st ++ below) f in
       let frame : Frame ℕ = OpenCall x.tie x.into x.y (while_called words Copies x.tie x.y then_own.vars) (lent_by Copies x.tie x.receiver) then_own.routine rest in (
         ap (λ f. turn_op (worded Copies u) (by f)) does,
         ap (λ f. told_to (worded Copies u) b t (by f) (Some v)) does
@@ -222,7 +222,7 @@ module _ (u : UnitCode) (l : Own) (t : ℕ) (st : List Enclosing) (below : List 
   acts_trap at i rest o told v k does halts =
       let c = Do at i rest in
       let b = before u l t st below calls c in
-      let by : Effect ℕ ℕ NoMark → Turn ℕ NoMark Ask = λ f. turn_of words Copies at rest (frames_of st ++ below) f in (
+      let by : Resumption ℕ ℕ NoMark → Turn ℕ NoMark Ask = λ f. turn_of words Copies at rest (frames_of st ++ below) f in (
         ap (λ f. turn_op (worded Copies u) (by f)) does,
         ap (λ f. told_to (worded Copies u) b t (by f) (Some v)) does ∙ ap (λ a. done (worded Copies u) b t (acted words Copies at rest (frames_of st ++ below) a)) halts,
       )

@@ -17,7 +17,7 @@ use Rattle.perm_meaning.specs.Expressions.{tagged, assign, slot_reference, look_
 use Rattle.perm_meaning.specs.Names.{Name, Mark, next_name, after_object, same_name}
 use Rattle.perm_meaning.specs.Objects.{Objects, size, types_or_none, zero_of, new_object, field_of, this_or, add, put}
 use Rattle.perm_meaning.specs.Machine.{NoTurns}
-use Rattle.perm_meaning.specs.Effects.{Effect, Does, Make, Load, Store, made, makes, into_var, with_vars, GoesOn, on_class, on_value, on_referred, on_object, on_number, ticks, effect}
+use Rattle.perm_meaning.specs.Effects.{Resumption, Does, Make, Load, Store, made, makes, into_var, with_vars, GoesOn, on_class, on_value, on_referred, on_object, on_number, ticks, effect}
 use Rattle.perm_meaning.specs.NamedHeap.{Heap, Held, Own, marks, found, found_nothing, allocated}
 use Rattle.perm_meaning.specs.Steps.{Found, Refused, within}
 use Rattle.perm_meaning.specs.Meaning.{Moment, Result, Well, Gave, Handed, Fails, Full, Stuck, then_do, answered, doing, does}
@@ -84,7 +84,7 @@ module _ (fields : ℕ) (objects : Objects Name) (held : List Holds) (vs : List 
 
 -- ---------- statements ----------
 -- a variable that holds an object
-pub on_object-is : (vs : List Held) (y : ℕ) (r : Name) (go : Name → ℕ → Effect Held Name Mark) → slice_get vs y ≡ Some (Some (Reference r 0)) → on_object tagged vs y go ≡ go r 0
+pub on_object-is : (vs : List Held) (y : ℕ) (r : Name) (go : Name → ℕ → Resumption Held Name Mark) → slice_get vs y ≡ Some (Some (Reference r 0)) → on_object tagged vs y go ≡ go r 0
 on_object-is vs y r go e = ap (λ o. on_value tagged (expressions.held tagged o) (λ v. on_referred tagged (slot_reference v) go)) e
 
 module _ (u : UnitCode) (limit : ℕ) (again : Code → Moment → Result) (types : List Ty) (long : AreLong types) (main : slice_get u.classes 0 ≡ Some types) (variables : ℕ) where
@@ -102,7 +102,7 @@ module _ (u : UnitCode) (limit : ℕ) (again : Code → Moment → Result) (type
     abbrev now : Moment
     now = moment t l h
 
-    abbrev told : Effect Held Name Mark → Result
+    abbrev told : Resumption Held Name Mark → Result
     told e = doing u (within limit) again at e now
 
     -- the next variable takes a value
@@ -158,7 +158,7 @@ module _ (u : UnitCode) (limit : ℕ) (again : Code → Moment → Result) (type
         Loaded : Result → Type 0
         Loaded = LeadsTo ⊥ (Stands fields variables (held ++ ANumber ∷ []) t h.given)
 
-        go : Name → ℕ → Effect Held Name Mark
+        go : Name → ℕ → Resumption Held Name Mark
         go r n = Does (Load r f) (into_var tagged x l.vars l)
 
         by_field : (r : Name) → (n : ℤ) × (field_of h.objects r f ≡ Some (Number n)) × IsOf64Bits n → Loaded (told (go r 0))
@@ -179,7 +179,7 @@ module _ (u : UnitCode) (limit : ℕ) (again : Code → Moment → Result) (type
         Stored : Result → Type 0
         Stored = LeadsTo ⊥ (Stands fields variables held t h.given)
 
-        go : Name → ℕ → Effect Held Name Mark
+        go : Name → ℕ → Resumption Held Name Mark
         go r len = Does (Store r f (Some (Number (pos n)))) (λ w. GoesOn (with_vars tagged l l.vars))
 
         put_there : (r : Name) → Stands fields variables held t h.given (moment t l (record h { objects = put same_name h.objects r f (Number (pos n)) }))
@@ -206,7 +206,7 @@ module _ (u : UnitCode) (limit : ℕ) (again : Code → Moment → Result) (type
     pub print-leads : (e : Term) → IsSum held e → LeadsTo ⊥ (Stands fields variables held t h.given) (told (effect tagged u marks (Print e) l))
     print-leads e s = by_number (sum-gives fields h.objects held l.vars fit e s)
       where
-        go : ℤ → Effect Held Name Mark
+        go : ℤ → Resumption Held Name Mark
         go n = ticks tagged (GoesOn (record l { printed = l.printed ++ n ∷ [] }))
 
         by_number : (n : ℤ) × (eval tagged e l.vars ≡ Gives (Some (Number n))) × IsOf64Bits n → LeadsTo ⊥ (Stands fields variables held t h.given) (told (effect tagged u marks (Print e) l))

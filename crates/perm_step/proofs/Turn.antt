@@ -5,7 +5,7 @@ use Rattle.perm_tree.specs.declared.errors.TrapKind.{TrapKind}
 use Rattle.perm_tree.specs.Code.{Argument, Code, Return, Do, Instruction, UnitCode}
 use Rattle.perm_meaning.specs.declared.End.TheVariants.{OutOfTurns}
 use Rattle.perm_meaning.specs.Custody.{Copies}
-use Rattle.perm_meaning.specs.Effects.{Act, Halts, Effect, Does}
+use Rattle.perm_meaning.specs.Effects.{Act, Halts, Resumption, Does}
 use Rattle.perm_meaning.specs.Expressions.{value_of}
 use Rattle.perm_meaning.specs.Machine.{Leaf, Here, Did, Ends, Turn, Trapped, NoTurns, GaveBack, Failed, final, settled, told_to, done, turn_op}
 use Rattle.perm_meaning.specs.Steps.{Found, within, leftmost, careful, asked_with_care, granted}
@@ -43,7 +43,7 @@ module _ (u : UnitCode) where
     abbrev before : State
     before = state_of u full (Do at i rest)
 
-    abbrev eff : Effect ℕ ℕ NoMark
+    abbrev eff : Resumption ℕ ℕ NoMark
     eff = effect_of u i m
 
     -- the state after the event, by what the effect does
@@ -59,7 +59,7 @@ module _ (u : UnitCode) where
 
     -- the interpreter goes on as the event does
     pub turn_goes : (o : Ask) (told : ℕ → Act ℕ NoMark) (new : Workspace) → eff ≡ Does o told → GoesOnBy u eff m new → (on u m.limit before ≡ Some (state_of u new rest)) × (new.limit ≡ m.limit)
-    turn_goes o told new does by = go (subst (λ (e : Effect ℕ ℕ NoMark). GoesOnBy u e m new) does by)
+    turn_goes o told new does by = go (subst (λ (e : Resumption ℕ ℕ NoMark). GoesOnBy u e m new) does by)
       where
         go : GoesOnBy u (Does o told) m new → (on u m.limit before ≡ Some (state_of u new rest)) × (new.limit ≡ m.limit)
         go (v, found, acts, cells, keeps) = (
@@ -72,7 +72,7 @@ module _ (u : UnitCode) where
 
     -- it stops as the event does
     pub turn_stops : (o : Ask) (told : ℕ → Act ℕ NoMark) (new : Workspace) (e : Stop) → eff ≡ Does o told → StopsBy eff m new e → HaltsFrom u m.limit before new (halt_of e at)
-    turn_stops o told new e does by = go e (subst (λ (x : Effect ℕ ℕ NoMark). StopsBy x m new e) does by)
+    turn_stops o told new e does by = go e (subst (λ (x : Resumption ℕ ℕ NoMark). StopsBy x m new e) does by)
       where
         trapped : (v : ℕ) (k : TrapKind) → find (within m.limit) o (cells_of m.words) ≡ Found v → told v ≡ Halts k → after (within m.limit) o (cells_of m.words) ≡ cells_of m.words → new ≡ m
             → ComesTo u m.limit before new (Failed (Trapped k at) new.turns new.printed)

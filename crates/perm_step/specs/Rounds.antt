@@ -18,7 +18,7 @@ use Rattle.perm_meaning.specs.declared.End.{End}
 use Rattle.perm_meaning.specs.declared.End.TheVariants.{Done, Trap, OutOfTurns, HeapFull}
 use Rattle.perm_meaning.specs.declared.Outcome.{Outcome}
 use Rattle.perm_meaning.specs.Custody.{Copies}
-use Rattle.perm_meaning.specs.Effects.{GoesOn, Halts, Effect, Does, Sticks, effect}
+use Rattle.perm_meaning.specs.Effects.{GoesOn, Halts, Resumption, Does, Sticks, effect}
 use Rattle.perm_meaning.specs.Expressions.{look_up}
 use Rattle.perm_meaning.specs.Literals.{NumbersFit}
 use Rattle.perm_meaning.specs.Machine.{Trapped, NoTurns, Final, GaveBack, Failed, final, look}
@@ -126,13 +126,13 @@ pub record KeepsPlace (old new : Workspace) : Type 0 where
   pub limit : new.limit ≡ old.limit
 
 -- the interpreter goes on as the effect of a statement says; nothing is said where that is stuck
-abbrev pub GoesOnBy : UnitCode → Effect ℕ ℕ NoMark → Workspace → Workspace → Type 0
+abbrev pub GoesOnBy : UnitCode → Resumption ℕ ℕ NoMark → Workspace → Workspace → Type 0
 GoesOnBy u Sticks old new = Unit {0}
 GoesOnBy u (Does o told) old new =
     (v : ℕ) × (find (within old.limit) o (cells_of old.words) ≡ Found v) × (told v ≡ GoesOn (own_of u new)) × (after (within old.limit) o (cells_of old.words) ≡ cells_of new.words) × KeepsPlace old new
 
 -- it stops as the effect of a statement says: by a trap, or since the heap refuses an allocation; nothing is said where memory runs out
-abbrev pub StopsBy : Effect ℕ ℕ NoMark → Workspace → Workspace → Stop → Type 0
+abbrev pub StopsBy : Resumption ℕ ℕ NoMark → Workspace → Workspace → Stop → Type 0
 StopsBy Sticks old new e = Unit {0}
 StopsBy (Does o told) old new (stops.Short shortages.NoMemory) = Unit {0}
 StopsBy (Does o told) old new (stops.Short shortages.HeapFull) = (find (within old.limit) o (cells_of old.words) ≡ Refused) × (new ≡ old)
@@ -140,7 +140,7 @@ StopsBy (Does o told) old new (stops.Trap k) =
     (v : ℕ) × (find (within old.limit) o (cells_of old.words) ≡ Found v) × (told v ≡ Halts k) × (after (within old.limit) o (cells_of old.words) ≡ cells_of old.words) × (new ≡ old)
 
 -- the effect of an instruction on these variables
-abbrev pub effect_of : UnitCode → Instruction → Workspace → Effect ℕ ℕ NoMark
+abbrev pub effect_of : UnitCode → Instruction → Workspace → Resumption ℕ ℕ NoMark
 effect_of u i m = effect on_words u no_marks i (own_of u m)
 
 -- the interpreter goes on as the instruction says that it is ready for

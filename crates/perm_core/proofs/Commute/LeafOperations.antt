@@ -10,7 +10,7 @@ use Rattle.perm_tree.specs.Code.{Argument, Expression, Consumed, Instruction, De
 use Rattle.perm_meaning.specs.Values.{Value, Number, Truth, Null, Reference, Eval, Gives, Traps, Mistyped, Referred, ToNull, ToObject, NoReference}
 use Rattle.perm_meaning.specs.Names.{Name, Mark, next_name}
 use Rattle.perm_meaning.specs.Expressions.{tagged, held, look_up, cleared_slot, clear, eval, value_of}
-use Rattle.perm_meaning.specs.Effects.{Tick, Load, Store, Take, Make, Act, GoesOn, Calls, Effect, Does, Sticks, choose, depth_limit, ticks, halts, with_vars, into_var, makes, first_vars, on_value, if_number, on_number, on_referred, on_object, on_argument, on_arguments, on_index, on_length, on_class, on_call, on_routine, below_limit, effect}
+use Rattle.perm_meaning.specs.Effects.{Tick, Load, Store, Take, Make, Act, GoesOn, Calls, Resumption, Does, Sticks, choose, depth_limit, ticks, halts, with_vars, into_var, makes, first_vars, on_value, if_number, on_number, on_referred, on_object, on_argument, on_arguments, on_index, on_length, on_class, on_call, on_routine, below_limit, effect}
 use Rattle.perm_meaning.specs.NamedHeap.{Held, Op, Own, marks}
 use Rattle.perm_core.specs.Core.{Writes, Touches}
 use Rattle.perm_core.specs.Regions.{Zone, Labels}
@@ -89,41 +89,41 @@ module _ (labels : Labels) (w : Way) (z : Zone) (l : Own) where
   take-in r f may = record { touches = λ q g t. write (subst (λ n. MayWrite w z (labels n)) t.0 may); writes = λ q g t. subst (λ n. MayWrite w z (labels n)) t.0 may; makes = λ q m. absurd m }
 
   -- what an effect asks is so
-  abbrev Asks : Effect Held Name Mark → Type 0
+  abbrev Asks : Resumption Held Name Mark → Type 0
   Asks (Does o told) = IsIn o
   Asks Sticks = Unit {0}
 
-  value-asks : (e : Eval Held) (go : Held → Effect Held Name Mark) → ((v : Held) → e ≡ Gives v → Asks (go v)) → Asks (on_value tagged e go)
+  value-asks : (e : Eval Held) (go : Held → Resumption Held Name Mark) → ((v : Held) → e ≡ Gives v → Asks (go v)) → Asks (on_value tagged e go)
   value-asks (Gives v) go h = h v refl
   value-asks (Traps t) go h = tick-in
   value-asks Mistyped go h = tt
 
-  number-if : (n : Option ℤ) (go : ℤ → Effect Held Name Mark) → ((n : ℤ) → Asks (go n)) → Asks (if_number tagged n go)
+  number-if : (n : Option ℤ) (go : ℤ → Resumption Held Name Mark) → ((n : ℤ) → Asks (go n)) → Asks (if_number tagged n go)
   number-if None go h = tt
   number-if (Some n) go h = h n
 
-  number-asks : (e : Eval Held) (go : ℤ → Effect Held Name Mark) → ((n : ℤ) → Asks (go n)) → Asks (on_number tagged e go)
+  number-asks : (e : Eval Held) (go : ℤ → Resumption Held Name Mark) → ((n : ℤ) → Asks (go n)) → Asks (on_number tagged e go)
   number-asks e go h = value-asks e (λ v. if_number tagged (tagged.as_number v) go) (λ v q. number-if (tagged.as_number v) go h)
 
-  referred-asks : (x : Referred Name) (go : Name → ℕ → Effect Held Name Mark) → ((r : Name) (n : ℕ) → x ≡ ToObject r n → Asks (go r n)) → Asks (on_referred tagged x go)
+  referred-asks : (x : Referred Name) (go : Name → ℕ → Resumption Held Name Mark) → ((r : Name) (n : ℕ) → x ≡ ToObject r n → Asks (go r n)) → Asks (on_referred tagged x go)
   referred-asks (ToObject r n) go h = h r n refl
   referred-asks ToNull go h = tick-in
   referred-asks NoReference go h = tt
 
-  object-asks : (vs : List Held) (y : ℕ) (go : Name → ℕ → Effect Held Name Mark) → ((r : Name) (n : ℕ) → slice_get vs y ≡ Some (Some (Reference r n)) → Asks (go r n)) → Asks (on_object tagged vs y go)
+  object-asks : (vs : List Held) (y : ℕ) (go : Name → ℕ → Resumption Held Name Mark) → ((r : Name) (n : ℕ) → slice_get vs y ≡ Some (Some (Reference r n)) → Asks (go r n)) → Asks (on_object tagged vs y go)
   object-asks vs y go h =
       value-asks (look_up tagged vs y) (λ v. on_referred tagged (tagged.as_reference v) go)
       (λ v q. referred-asks (tagged.as_reference v) go (λ r n e. h r n (looked-up (slice_get vs y) v q ∙ ap (λ x. Some x) (referred-to v r n e))))
 
-  argument-asks : (a : Argument) (vs : List Held) (go : Held → List Held → Effect Held Name Mark) → ((v : Held) (ws : List Held) → Lose vs ws → Asks (go v ws)) → Asks (on_argument tagged a vs go)
+  argument-asks : (a : Argument) (vs : List Held) (go : Held → List Held → Resumption Held Name Mark) → ((v : Held) (ws : List Held) → Lose vs ws → Asks (go v ws)) → Asks (on_argument tagged a vs go)
   argument-asks (Expression e) vs go h = value-asks (eval tagged e vs) (λ v. go v vs) (λ v q. h v vs (λ y v e. e))
   argument-asks (Consumed y) vs go h = value-asks (look_up tagged vs y) (λ v. go v (clear tagged vs y)) (λ v q. h v (clear tagged vs y) (clear-loses vs y))
 
-  arguments-ask : (args : List Argument) (found vs : List Held) (go : List Held → List Held → Effect Held Name Mark) → ((found ws : List Held) → Asks (go found ws)) → Asks (on_arguments tagged args found vs go)
+  arguments-ask : (args : List Argument) (found vs : List Held) (go : List Held → List Held → Resumption Held Name Mark) → ((found ws : List Held) → Asks (go found ws)) → Asks (on_arguments tagged args found vs go)
   arguments-ask [] found vs go h = h found vs
   arguments-ask (a ∷ rest) found vs go h = argument-asks a vs (λ v vs. on_arguments tagged rest (found ++ v ∷ []) vs go) (λ v ws lose. arguments-ask rest (found ++ v ∷ []) ws go h)
 
-  index-asks : (i : ℤ) (n : ℕ) (go : ℕ → Effect Held Name Mark) → ((f : ℕ) → Asks (go f)) → Asks (on_index tagged i n go)
+  index-asks : (i : ℤ) (n : ℕ) (go : ℕ → Resumption Held Name Mark) → ((f : ℕ) → Asks (go f)) → Asks (on_index tagged i n go)
   index-asks (negsuc i) n go h = tick-in
   index-asks (pos i) n go h = within (nat_lt i n)
     where
@@ -131,21 +131,21 @@ module _ (labels : Labels) (w : Way) (z : Zone) (l : Own) where
       within true = h i
       within false = tick-in
 
-  length-asks : (i : ℤ) (go : ℕ → Effect Held Name Mark) → ((n : ℕ) → Asks (go n)) → Asks (on_length tagged i go)
+  length-asks : (i : ℤ) (go : ℕ → Resumption Held Name Mark) → ((n : ℕ) → Asks (go n)) → Asks (on_length tagged i go)
   length-asks (pos n) go h = h n
   length-asks (negsuc n) go h = tick-in
 
-  class-asks : (ts : Option (List Ty)) (go : ℕ → Effect Held Name Mark) → ((n : ℕ) → Asks (go n)) → Asks (on_class tagged ts go)
+  class-asks : (ts : Option (List Ty)) (go : ℕ → Resumption Held Name Mark) → ((n : ℕ) → Asks (go n)) → Asks (on_class tagged ts go)
   class-asks None go h = tt
   class-asks (Some ts) go h = h (length ts)
 
-  call-asks : (consumed : Bool) (y : ℕ) (args : List Argument) (vs : List Held) (go : Held → List Held → List Held → Effect Held Name Mark) → ((this : Held) (found ws : List Held) → Asks (go this found ws)) → Asks (on_call tagged consumed y args vs go)
+  call-asks : (consumed : Bool) (y : ℕ) (args : List Argument) (vs : List Held) (go : Held → List Held → List Held → Resumption Held Name Mark) → ((this : Held) (found ws : List Held) → Asks (go this found ws)) → Asks (on_call tagged consumed y args vs go)
   call-asks true y args vs go h =
       value-asks (look_up tagged vs y) (λ this. on_arguments tagged args [] (clear tagged vs y) (λ found vs. go this found vs)) (λ this q. arguments-ask args [] (clear tagged vs y) (λ found vs. go this found vs) (λ found ws. h this found ws))
   call-asks false y args vs go h =
       arguments-ask args [] vs (λ found vs. on_value tagged (look_up tagged vs y) (λ this. go this found vs)) (λ found ws. value-asks (look_up tagged ws y) (λ this. go this found ws) (λ this q. h this found ws))
 
-  routine-asks : (r : Option Routine) (args : List Held) (go : Routine → Effect Held Name Mark) → ((r : Routine) → Asks (go r)) → Asks (on_routine tagged r args go)
+  routine-asks : (r : Option Routine) (args : List Held) (go : Routine → Resumption Held Name Mark) → ((r : Routine) → Asks (go r)) → Asks (on_routine tagged r args go)
   routine-asks None args go h = tt
   routine-asks (Some r) args go h = fitting (nat_eq (length args) (length r.params))
     where
@@ -184,7 +184,7 @@ module _ (labels : Labels) (w : Way) (z : Zone) (l : Own) where
         value-asks (eval tagged e l.vars) (λ v. if_number tagged (tagged.as_number v) (λ n. storing i v)) (λ v q.
         number-if (tagged.as_number v) (λ n. storing i v) (λ n. stored i v)))
       where
-        storing : ℤ → Held → Effect Held Name Mark
+        storing : ℤ → Held → Resumption Held Name Mark
         storing i v = on_object tagged l.vars y (λ r n. on_index tagged i n (λ f. Does (Store r f v) (λ w. GoesOn l)))
 
         stored : (i : ℤ) (v : Held) → Asks (storing i v)
@@ -197,7 +197,7 @@ module _ (labels : Labels) (w : Way) (z : Zone) (l : Own) where
         begun : Held → List Held → List Held → Routine → Act Held Mark
         begun this found vs r = Calls (record { routine = m; code = r.code; first = first_vars tagged r this found; tie = tie; receiver = this; y = y; into = into }) (with_vars tagged l vs)
 
-        calling : Held → List Held → List Held → Routine → Effect Held Name Mark
+        calling : Held → List Held → List Held → Routine → Resumption Held Name Mark
         calling this found vs r = below_limit tagged l.depth (begun this found vs r)
     effect-asks (Print e) through = number-asks (eval tagged e l.vars) (λ n. ticks tagged (GoesOn (record l { printed = l.printed ++ n ∷ [] }))) (λ n. tick-in)
 
@@ -206,7 +206,7 @@ module _ (labels : Labels) (w : Way) (z : Zone) (l : Own) where
     TurnAsks (Takes o told) = IsIn o
     TurnAsks NoTurn = Unit {0}
 
-    turn-of-asks : (at : Span) (rest : Code) (st : List (Frame Held)) (e : Effect Held Name Mark) → Asks e → TurnAsks (turn_of tagged Moves at rest st e)
+    turn-of-asks : (at : Span) (rest : Code) (st : List (Frame Held)) (e : Resumption Held Name Mark) → Asks e → TurnAsks (turn_of tagged Moves at rest st e)
     turn-of-asks at rest st (Does o told) h = h
     turn-of-asks at rest st Sticks h = tt
 

@@ -4,19 +4,19 @@ use Rattle.std.specs.Prelude.{◌⊎◌}
 use Rattle.perm_meaning.specs.Machine.{Branch, Task, Leaf, Fork, Blocks, Way, Here, GoL, GoR, Final, Fine, GaveBack, Failed, Stage, Over, Due, Did, On, Splits, Ends, Dies, Turn, Takes, NoTurn, Machine, stage, final, if_both_over, done, told_to, next_turn, leaf_on, resumed, join_of, look, fill}
 use Rattle.perm_meaning.specs.Steps.{Lone, Run, KeptRight, KeptLeft, lone_task, lone_of, lone_way, lone_on, left_side_way, right_side_way, after_left, after_right, AreOver}
 use Rattle.perm_meaning.proofs.Leads.{none_some, ended_no_event, unended}
-use Rattle.perm_core.specs.Pieces.{Numbered, Held, One, Two, held_task, AllOver, IsAside, IsAsideIn}
+use Rattle.perm_core.specs.Pieces.{Numbered, NumberedTree, One, Two, held_task, AllOver, IsAside, IsAsideIn}
 use Rattle.perm_core.proofs.Pieces.Holes.{Round, Hole, OnLeft, OnRight, plug, at_hole}
 
 module _ {V G : Type 0} where
   -- the event is the next one of a holder
-  pub record AtHolder (h : Held V G) (w : Way) : Type 0 where
+  pub record AtHolder (h : NumberedTree V G) (w : Way) : Type 0 where
     pub round : Round V G
     pub holder : Lone V G
     pub is : h ≡ plug round (One holder)
     pub way : w ≡ at_hole round (lone_way holder)
 
   -- it is a join under a number
-  pub record AtJoin (h : Held V G) (w : Way) : Type 0 where
+  pub record AtJoin (h : NumberedTree V G) (w : Way) : Type 0 where
     pub round : Round V G
     pub parent : Numbered V G
     pub left : Branch V G
@@ -142,13 +142,13 @@ module _ {V G O : Type 0} (m : Machine V G O) where
       go (inl q) = inl (ap (λ z. GoR z) q ∙ sym (ap (λ z. right_side_way z (lone_way r)) (unended m w (lone_task r) o e)))
       go (inr q) = inr q
 
-  leaf-is : (h : Held V G) (f : Final V) → final (held_task h) ≡ Some f → (b : Branch V G) × (h ≡ One (Run b))
+  leaf-is : (h : NumberedTree V G) (f : Final V) → final (held_task h) ≡ Some f → (b : Branch V G) × (h ≡ One (Run b))
   leaf-is (One (Run b)) f e = (b, refl)
   leaf-is (One (KeptRight b p l r)) f e = none_some e
   leaf-is (One (KeptLeft b p l r)) f e = none_some e
   leaf-is (Two w l r) f e = none_some e
 
-  pub each-event : (h : Held V G) (w : Way) (o : O) → AllOver h → look m w (held_task h) ≡ Some o → AtHolder h w ⊎ (AtJoin h w ⊎ IsAsideIn h w)
+  pub each-event : (h : NumberedTree V G) (w : Way) (o : O) → AllOver h → look m w (held_task h) ≡ Some o → AtHolder h w ⊎ (AtJoin h w ⊎ IsAsideIn h w)
   each-event (One x) w o over e = go (own-way x w o over e)
     where
       go : (w ≡ lone_way x) ⊎ IsAside x w → AtHolder (One x) w ⊎ (AtJoin (One x) w ⊎ IsAside x w)

@@ -3,18 +3,18 @@ use Rattle.std.proofs.Common.{◌≡◌, ℕ, Option, Some, List, [], ◌∷◌,
 use Rattle.std.specs.Prelude.{◌⊎◌}
 use Rattle.perm_meaning.specs.Machine.{Machine, Fork, Way, GoL, GoR, look, fill}
 use Rattle.perm_core.specs.Bag.{Picks}
-use Rattle.perm_core.specs.Pieces.{Foot, OnRightSide, Numbered, Piece, Held, One, Two, held_task, cut, numbers, AllOver}
+use Rattle.perm_core.specs.Pieces.{Foot, OnRightSide, Numbered, Piece, NumberedTree, One, Two, held_task, cut, numbers, AllOver}
 use Rattle.perm_core.proofs.Pieces.Bags.{picks-split}
 
 -- a tree with a hole
 pub data Round (V G : Type 0) : Type 0 where
   Hole : Round V G
-  OnLeft : (w : Numbered V G) (c : Round V G) (r : Held V G) → Round V G
-  OnRight : (w : Numbered V G) (l : Held V G) (c : Round V G) → Round V G
+  OnLeft : (w : Numbered V G) (c : Round V G) (r : NumberedTree V G) → Round V G
+  OnRight : (w : Numbered V G) (l : NumberedTree V G) (c : Round V G) → Round V G
 
 module _ {V G : Type 0} where
   -- the tree with the hole filled
-  abbrev pub plug : Round V G → Held V G → Held V G
+  abbrev pub plug : Round V G → NumberedTree V G → NumberedTree V G
   plug Hole h = h
   plug (OnLeft w c r) h = Two w (plug c h) r
   plug (OnRight w l c) h = Two w l (plug c h)
@@ -50,7 +50,7 @@ module _ {V G : Type 0} where
   behind foot up (OnRight w l c) = behind (OnRightSide (Some w.number)) [] c
 
   -- the pieces of the whole
-  pub cut-plug : (c : Round V G) (h : Held V G) (foot : Foot) (up : List (Numbered V G)) → cut foot up (plug c h) ≡ before foot up c ++ (cut (foot_at foot c) (parents_at up c) h ++ behind foot up c)
+  pub cut-plug : (c : Round V G) (h : NumberedTree V G) (foot : Foot) (up : List (Numbered V G)) → cut foot up (plug c h) ≡ before foot up c ++ (cut (foot_at foot c) (parents_at up c) h ++ behind foot up c)
   cut-plug Hole h foot up = sym (append-nil (cut foot up h))
   cut-plug (OnLeft w c r) h foot up =
       let a = before foot (w ∷ up) c in
@@ -78,7 +78,7 @@ module _ {V G : Type 0} where
   numbers_behind (OnLeft w c r) = numbers_behind c ++ numbers r
   numbers_behind (OnRight w l c) = numbers_behind c
 
-  pub numbers-plug : (c : Round V G) (h : Held V G) → numbers (plug c h) ≡ numbers_before c ++ (numbers h ++ numbers_behind c)
+  pub numbers-plug : (c : Round V G) (h : NumberedTree V G) → numbers (plug c h) ≡ numbers_before c ++ (numbers h ++ numbers_behind c)
   numbers-plug Hole h = sym (append-nil (numbers h))
   numbers-plug (OnLeft w c r) h =
       ap (λ y. w.number ∷ (y ++ numbers r)) (numbers-plug c h)
@@ -87,25 +87,25 @@ module _ {V G : Type 0} where
       ap (λ y. w.number ∷ (numbers l ++ y)) (numbers-plug c h) ∙ ap (λ y. w.number ∷ y) (sym (append_assoc (numbers l) (numbers_before c) (numbers h ++ numbers_behind c)))
 
   -- ---------- left sides that are kept aside ----------
-  pub over-plug : (c : Round V G) (h k : Held V G) → AllOver (plug c h) → AllOver k → AllOver (plug c k)
+  pub over-plug : (c : Round V G) (h k : NumberedTree V G) → AllOver (plug c h) → AllOver k → AllOver (plug c k)
   over-plug Hole h k all new = new
   over-plug (OnLeft w c r) h k all new = (over-plug c h k all.0 new, all.1)
   over-plug (OnRight w l c) h k all new = (all.0, over-plug c h k all.1 new)
 
-  pub over-in : (c : Round V G) (h : Held V G) → AllOver (plug c h) → AllOver h
+  pub over-in : (c : Round V G) (h : NumberedTree V G) → AllOver (plug c h) → AllOver h
   over-in Hole h all = all
   over-in (OnLeft w c r) h all = over-in c h all.0
   over-in (OnRight w l c) h all = over-in c h all.1
 
   -- ---------- where a piece stands ----------
-  pub record Spot (h : Held V G) (foot : Foot) (up : List (Numbered V G)) (p : Piece V G) (r : List (Piece V G)) : Type 0 where
+  pub record Spot (h : NumberedTree V G) (foot : Foot) (up : List (Numbered V G)) (p : Piece V G) (r : List (Piece V G)) : Type 0 where
     pub round : Round V G
     pub is : h ≡ plug round (One p.own)
     pub foot_is : foot_at foot round ≡ p.foot
     pub parents_are : parents_at up round ≡ p.parents
     pub others : r ≡ before foot up round ++ behind foot up round
 
-  pub find : (h : Held V G) (foot : Foot) (up : List (Numbered V G)) (p : Piece V G) (r : List (Piece V G)) → Picks p (cut foot up h) r → Spot h foot up p r
+  pub find : (h : NumberedTree V G) (foot : Foot) (up : List (Numbered V G)) (p : Piece V G) (r : List (Piece V G)) → Picks p (cut foot up h) r → Spot h foot up p r
   find (One x) foot up p r (inl q) =
       record {
         round = Hole;
@@ -148,12 +148,12 @@ module _ {V G : Type 0} where
 -- ---------- events ----------
 module _ {V G O : Type 0} (m : Machine V G O) where
   -- an event in the hole is one of the whole
-  pub look-plug : (c : Round V G) (h : Held V G) (v : Way) → look m (at_hole c v) (held_task (plug c h)) ≡ look m v (held_task h)
+  pub look-plug : (c : Round V G) (h : NumberedTree V G) (v : Way) → look m (at_hole c v) (held_task (plug c h)) ≡ look m v (held_task h)
   look-plug Hole h v = refl
   look-plug (OnLeft w c r) h v = look-plug c h v
   look-plug (OnRight w l c) h v = look-plug c h v
 
-  pub fill-plug : (c : Round V G) (h k : Held V G) (v : Way) (a : Option V) → held_task k ≡ fill m v (held_task h) a → held_task (plug c k) ≡ fill m (at_hole c v) (held_task (plug c h)) a
+  pub fill-plug : (c : Round V G) (h k : NumberedTree V G) (v : Way) (a : Option V) → held_task k ≡ fill m v (held_task h) a → held_task (plug c k) ≡ fill m (at_hole c v) (held_task (plug c h)) a
   fill-plug Hole h k v a e = e
   fill-plug (OnLeft w c r) h k v a e = ap (λ t. Fork w.branch w.blocks t (held_task r)) (fill-plug c h k v a e)
   fill-plug (OnRight w l c) h k v a e = ap (λ t. Fork w.branch w.blocks (held_task l) t) (fill-plug c h k v a e)

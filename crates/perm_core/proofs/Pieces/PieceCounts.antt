@@ -4,7 +4,7 @@ use Rattle.perm_meaning.specs.Machine.{Branch, Task, Leaf, Fork, Blocks, Way, He
 use Rattle.perm_meaning.specs.Steps.{lone_task, lone_of, lone_way}
 use Rattle.perm_meaning.proofs.Leads.{some_inj, none_some}
 use Rattle.perm_core.specs.Bag.{times, total}
-use Rattle.perm_core.specs.Pieces.{Foot, AtRoot, Numbered, Held, One, Two, held_task, cut, numbers, at_foot, numbers_of, feet_of, parents_of, turns_in, turns_of_piece, turn_at, IsAlone}
+use Rattle.perm_core.specs.Pieces.{Foot, AtRoot, Numbered, NumberedTree, One, Two, held_task, cut, numbers, at_foot, numbers_of, feet_of, parents_of, turns_in, turns_of_piece, turn_at, IsAlone}
 use Rattle.perm_core.specs.PieceLaws.{NumbersOfPieces, TurnsOfPieces, TakesTurns, SplitTakes, JoinReturns, AsksAtLeaf}
 use Rattle.perm_core.proofs.Pieces.Bags.{total-append, times-append}
 use Rattle.perm_core.proofs.Pieces.HeldEvents.{lone-event, joined-held}
@@ -14,7 +14,7 @@ use Rattle.perm_core.proofs.FewEvents.{join-turns, due-turns, over-turns, settle
 module _ {V G : Type 0} where
   -- ---------- numbers ----------
   -- the feet of right sides among the pieces are those of the numbers that are borne, and the foot of the whole
-  pub feet-sum : (i : ℕ) (h : Held V G) (foot : Foot) (up : List (Numbered V G)) → total (feet_of i) (cut foot up h) ≡ at_foot i foot + times i (numbers h)
+  pub feet-sum : (i : ℕ) (h : NumberedTree V G) (foot : Foot) (up : List (Numbered V G)) → total (feet_of i) (cut foot up h) ≡ at_foot i foot + times i (numbers h)
   feet-sum i (One x) foot up = refl
   feet-sum i (Two w l r) foot up =
       let a = feet-sum i l foot (w ∷ up) in
@@ -24,7 +24,7 @@ module _ {V G : Type 0} where
       omega arith
 
   -- the parents of the pieces are those that bear the numbers, and those above the whole
-  pub parents-sum : (i : ℕ) (h : Held V G) (foot : Foot) (up : List (Numbered V G)) → total (parents_of i) (cut foot up h) ≡ times i (numbers_of up) + times i (numbers h)
+  pub parents-sum : (i : ℕ) (h : NumberedTree V G) (foot : Foot) (up : List (Numbered V G)) → total (parents_of i) (cut foot up h) ≡ times i (numbers_of up) + times i (numbers h)
   parents-sum i (One x) foot up = refl
   parents-sum i (Two w l r) foot up =
       let a = parents-sum i l foot (w ∷ up) in
@@ -35,7 +35,7 @@ module _ {V G : Type 0} where
 
   -- ---------- turns ----------
   -- the pieces have the turns of the tree
-  pub turns-sum : (h : Held V G) (foot : Foot) (up : List (Numbered V G)) → total turns_of_piece (cut foot up h) ≡ turns_in (held_task h)
+  pub turns-sum : (h : NumberedTree V G) (foot : Foot) (up : List (Numbered V G)) → total turns_of_piece (cut foot up h) ≡ turns_in (held_task h)
   turns-sum (One x) foot up = omega arith
   turns-sum (Two w l r) foot up =
       let a = turns-sum l foot (w ∷ up) in

@@ -4,7 +4,7 @@ use Rattle.std.specs.Prelude.{◌⊎◌, nat_eq, ◌+◌}
 use Rattle.perm_meaning.specs.Machine.{Branch, Leaf, Fork, Blocks, Way, Here, Final, Machine, stage, final, if_both_over, leaf_op, leaf_on, resumed, join_of, look, fill}
 use Rattle.perm_meaning.specs.Steps.{Lone, Run, lone_task, lone_of, lone_way, lone_on}
 use Rattle.perm_core.specs.Bag.{Picks, IsIn, IsDistinct, one_if, times}
-use Rattle.perm_core.specs.Pieces.{AtRoot, OnRightSide, Numbered, Piece, Held, One, Two, held_task, pieces, numbers, AllOver, IsAsideIn}
+use Rattle.perm_core.specs.Pieces.{AtRoot, OnRightSide, Numbered, Piece, NumberedTree, One, Two, held_task, pieces, numbers, AllOver, IsAsideIn}
 use Rattle.perm_core.specs.PieceLaws.{piece, HeldAfter, BearsMore, ChangesOne, Sides, JoinsTwo, SplitsOne, TurnOfPiece, SplitOfPiece, JoinOfPieces, OfOne, OfTwo, EventOfPieces}
 use Rattle.perm_core.proofs.Pieces.Bags.{picks-mid, distinct-put, distinct-out, times-put}
 use Rattle.perm_core.proofs.Pieces.Holes.{Round, plug, at_hole, foot_at, parents_at, before, behind, cut-plug, numbers_before, numbers_behind, numbers-plug, over-plug, over-in, Spot, find, look-plug, fill-plug}
@@ -19,7 +19,7 @@ module _ {V G O : Type 0} (m : Machine V G O) where
   abbrev piece_in : Round V G → Lone V G → Piece V G
   piece_in c x = piece m (foot_at AtRoot c) (parents_at [] c) x
 
-  abbrev two_in : Round V G → Numbered V G → Branch V G → Branch V G → Held V G
+  abbrev two_in : Round V G → Numbered V G → Branch V G → Branch V G → NumberedTree V G
   two_in c n l r = plug c (Two n (One (Run l)) (One (Run r)))
 
   picked : (c : Round V G) (x : Lone V G) → Picks (piece_in c x) (pieces (plug c (One x))) (around c)
@@ -101,7 +101,7 @@ module _ {V G O : Type 0} (m : Machine V G O) where
         after = λ v. (plug c (One joined), is_after v, more, picked c joined);
       }
     where
-      old : Held V G
+      old : NumberedTree V G
       old = Two n (One (Run l)) (One (Run r))
 
       end : Final V
@@ -181,7 +181,7 @@ module _ {V G O : Type 0} (m : Machine V G O) where
       c = s.round
 
   -- ---------- from the tree to its pieces ----------
-  of-one : (h : Held V G) (w : Way) (o : O) → IsDistinct (numbers h) → AllOver h → look m w (held_task h) ≡ Some o → AtHolder h w → OfOne m h w o
+  of-one : (h : NumberedTree V G) (w : Way) (o : O) → IsDistinct (numbers h) → AllOver h → look m w (held_task h) ≡ Some o → AtHolder h w → OfOne m h w o
   of-one h w o once over e a =
       subst (λ z. OfOne m z w o) (sym a.is) (subst (λ z. OfOne m (plug c (One a.holder)) z o) (sym a.way)
       (record { x = piece_in c a.holder; rest = around c; changes = changes-one c a.holder o (subst (λ z. IsDistinct (numbers z)) a.is once) (subst (λ z. AllOver z) a.is over) next }))
@@ -192,7 +192,7 @@ module _ {V G O : Type 0} (m : Machine V G O) where
       next : look m (lone_way a.holder) (lone_task a.holder) ≡ Some o
       next = sym (look-plug m c (One a.holder) (lone_way a.holder)) ∙ (λ i. look m (sym a.way i) (held_task (sym a.is i))) ∙ e
 
-  of-two : (h : Held V G) (w : Way) (o : O) → IsDistinct (numbers h) → AllOver h → look m w (held_task h) ≡ Some o → AtJoin h w → OfTwo m h w
+  of-two : (h : NumberedTree V G) (w : Way) (o : O) → IsDistinct (numbers h) → AllOver h → look m w (held_task h) ≡ Some o → AtJoin h w → OfTwo m h w
   of-two h w o once over e a =
       subst (λ z. OfTwo m z w) (sym a.is) (subst (λ z. OfTwo m (plug c old) z) (sym a.way)
       (record {
@@ -210,7 +210,7 @@ module _ {V G O : Type 0} (m : Machine V G O) where
       c : Round V G
       c = a.round
 
-      old : Held V G
+      old : NumberedTree V G
       old = Two a.parent (One (Run a.left)) (One (Run a.right))
 
       ends : (f : Final V) × (g : Final V) × (final {G = G} (Leaf a.left) ≡ Some f) × (final {G = G} (Leaf a.right) ≡ Some g)

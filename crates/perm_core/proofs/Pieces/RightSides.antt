@@ -3,7 +3,7 @@ use Rattle.std.proofs.Common.{◌≡◌, ℕ, Some, List, [], ◌∷◌, ◌++�
 use Rattle.std.specs.Prelude.{◌⊎◌}
 use Rattle.perm_meaning.specs.Steps.{Lone}
 use Rattle.perm_core.specs.Bag.{Picks, IsIn, IsDistinct}
-use Rattle.perm_core.specs.Pieces.{Foot, AtRoot, OnRightSide, Numbered, Piece, Held, One, Two, cut, pieces, numbers}
+use Rattle.perm_core.specs.Pieces.{Foot, AtRoot, OnRightSide, Numbered, Piece, NumberedTree, One, Two, cut, pieces, numbers}
 use Rattle.perm_core.proofs.Pieces.Bags.{picks-split, picks-in, in-left, in-right, in-split, distinct-out}
 use Rattle.perm_core.proofs.Pieces.Holes.{Round, Hole, OnLeft, OnRight, plug, foot_at, parents_at, before, behind, numbers_before, numbers_behind, numbers-plug, Spot, find}
 
@@ -27,7 +27,7 @@ module _ {V G : Type 0} where
   wider p ns ms f h = (h.0, h.1, f h.0 h.2)
 
   -- ---------- where the stems of the pieces end ----------
-  pub feet : (h : Held V G) (foot : Foot) (up : List (Numbered V G)) (p : Piece V G) → IsIn p (cut foot up h) → EndsAt p foot (length up) ⊎ EndsRightOf p (numbers h)
+  pub feet : (h : NumberedTree V G) (foot : Foot) (up : List (Numbered V G)) (p : Piece V G) → IsIn p (cut foot up h) → EndsAt p foot (length up) ⊎ EndsRightOf p (numbers h)
   feet (One x) foot up p (inl q) = inl (ap (λ (z : Piece V G). z.foot) q, subst (λ (z : Piece V G). length up ≤ length z.parents) (sym q) (le_refl (length up)))
   feet (One x) foot up p (inr q) = absurd q
   feet (Two w l r) foot up p q = go (λ q. feet l foot (w ∷ up) p q) (λ q. feet r (right_of w.number) [] p q) (in-split p (cut foot (w ∷ up) l) (cut (right_of w.number) [] r) q)
@@ -49,14 +49,14 @@ module _ {V G : Type 0} where
   abbrev pub numbers_round : Round V G → List ℕ
   numbers_round c = numbers_before c ++ numbers_behind c
 
-  on-left : (w : Numbered V G) (c : Round V G) (r : Held V G) (n : ℕ) → IsIn n (numbers_round c) → IsIn n (numbers_round (OnLeft w c r))
+  on-left : (w : Numbered V G) (c : Round V G) (r : NumberedTree V G) (n : ℕ) → IsIn n (numbers_round c) → IsIn n (numbers_round (OnLeft w c r))
   on-left w c r n h = inr (go (in-split n (numbers_before c) (numbers_behind c) h))
     where
       go : IsIn n (numbers_before c) ⊎ IsIn n (numbers_behind c) → IsIn n (numbers_before c ++ (numbers_behind c ++ numbers r))
       go (inl k) = in-left n (numbers_before c) (numbers_behind c ++ numbers r) k
       go (inr k) = in-right n (numbers_before c) (numbers_behind c ++ numbers r) (in-left n (numbers_behind c) (numbers r) k)
 
-  on-right : (w : Numbered V G) (l : Held V G) (c : Round V G) (n : ℕ) → IsIn n (numbers_round c) → IsIn n (numbers_round (OnRight w l c))
+  on-right : (w : Numbered V G) (l : NumberedTree V G) (c : Round V G) (n : ℕ) → IsIn n (numbers_round c) → IsIn n (numbers_round (OnRight w l c))
   on-right w l c n h = inr (subst (λ z. IsIn n z) (sym (append_assoc (numbers l) (numbers_before c) (numbers_behind c))) (in-right n (numbers l) (numbers_round c) h))
 
   feet-before : (c : Round V G) (foot : Foot) (up : List (Numbered V G)) (p : Piece V G) → IsIn p (before foot up c) → (p.foot ≡ foot) ⊎ EndsRightOf p (numbers_round c)
@@ -109,8 +109,8 @@ module _ {V G : Type 0} where
   -- ---------- the innermost parent above a hole ----------
   record Innermost (foot : Foot) (up : List (Numbered V G)) (c : Round V G) (w : Numbered V G) (parents : List (Numbered V G)) : Type 0 where
     outer : Round V G
-    right : Held V G
-    same : (x : Held V G) → plug c x ≡ plug outer (Two w x right)
+    right : NumberedTree V G
+    same : (x : NumberedTree V G) → plug c x ≡ plug outer (Two w x right)
     same_foot : (f : Foot) → foot_at f c ≡ foot_at f outer
     parents_are : parents_at up outer ≡ parents
     same_before : before foot up c ≡ before foot up outer
@@ -122,7 +122,7 @@ module _ {V G : Type 0} where
   rest_same : {w v : Numbered V G} {a b : List (Numbered V G)} → w ∷ a ≡ v ∷ b → a ≡ b
   rest_same e = cc
 
-  just_above : (foot : Foot) (up : List (Numbered V G)) (w : Numbered V G) (r : Held V G) (parents : List (Numbered V G)) → up ≡ parents → Innermost foot up (OnLeft w Hole r) w parents
+  just_above : (foot : Foot) (up : List (Numbered V G)) (w : Numbered V G) (r : NumberedTree V G) (parents : List (Numbered V G)) → up ≡ parents → Innermost foot up (OnLeft w Hole r) w parents
   just_above foot up w r parents q =
       record {
         outer = Hole;
@@ -170,7 +170,7 @@ module _ {V G : Type 0} where
 
   -- ---------- the two sides of a number ----------
   -- a piece at the foot of a right side, below no parents, is all of that side
-  whole-right : (t : Held V G) (n : ℕ) (x : Lone V G) (rest : List (Piece V G)) → (IsIn n (numbers t) → ⊥) → Picks (record { foot = right_of n; parents = []; own = x }) (cut (right_of n) [] t) rest → (t ≡ One x) × (rest ≡ [])
+  whole-right : (t : NumberedTree V G) (n : ℕ) (x : Lone V G) (rest : List (Piece V G)) → (IsIn n (numbers t) → ⊥) → Picks (record { foot = right_of n; parents = []; own = x }) (cut (right_of n) [] t) rest → (t ≡ One x) × (rest ≡ [])
   whole-right (One y) n x rest free (inl q) = (ap (λ (z : Piece V G). One z.own) (sym q.0), sym q.1)
   whole-right (One y) n x rest free (inr q) = absurd q.2
   whole-right (Two w l r) n x rest free q = absurd (go (in-split p (cut (right_of n) (w ∷ []) l) (cut (right_of w.number) [] r) (picks-in p (cut (right_of n) [] (Two w l r)) rest q)))
@@ -194,14 +194,14 @@ module _ {V G : Type 0} where
       go (inr k) = right (feet r (right_of w.number) [] p k)
 
   -- where two pieces under one number stand
-  pub record Pair (h : Held V G) (n : Numbered V G) (foot : Foot) (up : List (Numbered V G)) (l r : Lone V G) (rest : List (Piece V G)) : Type 0 where
+  pub record Pair (h : NumberedTree V G) (n : Numbered V G) (foot : Foot) (up : List (Numbered V G)) (l r : Lone V G) (rest : List (Piece V G)) : Type 0 where
     pub round : Round V G
     pub is : h ≡ plug round (Two n (One l) (One r))
     pub foot_is : foot_at AtRoot round ≡ foot
     pub parents_are : parents_at [] round ≡ up
     pub others : rest ≡ before AtRoot [] round ++ behind AtRoot [] round
 
-  pub find-pair : (h : Held V G) (n : Numbered V G) (foot : Foot) (up : List (Numbered V G)) (l r : Lone V G) (middle rest : List (Piece V G)) → IsDistinct (numbers h)
+  pub find-pair : (h : NumberedTree V G) (n : Numbered V G) (foot : Foot) (up : List (Numbered V G)) (l r : Lone V G) (middle rest : List (Piece V G)) → IsDistinct (numbers h)
       → Picks (record { foot = foot; parents = n ∷ up; own = l }) (pieces h) middle → Picks (record { foot = right_of n.number; parents = []; own = r }) middle rest → Pair h n foot up l r rest
   find-pair h n foot up l r middle rest once left right = go (innermost x.round AtRoot [] n up x.parents_are)
     where

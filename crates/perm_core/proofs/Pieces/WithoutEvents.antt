@@ -4,7 +4,7 @@ use Rattle.std.specs.Prelude.{◌⊎◌}
 use Rattle.perm_meaning.specs.Machine.{Leaf, Fork, Final, Machine, final}
 use Rattle.perm_meaning.specs.Steps.{Lone, Run, KeptRight, KeptLeft, lone_task, turned, turned_if, AreOver}
 use Rattle.perm_core.specs.Bag.{Picks, IsIn}
-use Rattle.perm_core.specs.Pieces.{AtRoot, Piece, Held, One, Two, held_task, cut, numbers, AllOver}
+use Rattle.perm_core.specs.Pieces.{AtRoot, Piece, NumberedTree, One, Two, held_task, cut, numbers, AllOver}
 use Rattle.perm_core.specs.PieceLaws.{piece, TurnsOne, TurnsRight, RootIsAll}
 use Rattle.perm_core.proofs.Pieces.Bags.{picks-in, picks-mid, in-split}
 use Rattle.perm_core.proofs.Pieces.Holes.{Round, Hole, OnLeft, OnRight, plug, foot_at, parents_at, before, behind, cut-plug, numbers-plug, over-plug, over-in, Spot, find}
@@ -37,7 +37,7 @@ module _ {V G : Type 0} where
   turned-over (KeptLeft b p l r) h = (h.0, turned-over r h.1)
 
   -- what has one tree has one tree in a hole too
-  held-plug : (c : Round V G) (h k : Held V G) → held_task k ≡ held_task h → held_task (plug c k) ≡ held_task (plug c h)
+  held-plug : (c : Round V G) (h k : NumberedTree V G) → held_task k ≡ held_task h → held_task (plug c k) ≡ held_task (plug c h)
   held-plug Hole h k e = e
   held-plug (OnLeft w c r) h k e = ap (λ t. Fork w.branch w.blocks t (held_task r)) (held-plug c h k e)
   held-plug (OnRight w l c) h k e = ap (λ t. Fork w.branch w.blocks (held_task l) t) (held-plug c h k e)

@@ -13,9 +13,10 @@ use Rattle.perm_tree.specs.declared.ast.Ty.{Ty}
 use Rattle.perm_tree.specs.declared.ast.Ty.TheVariants.{Long, Bool as Boolean, Ref}
 use Rattle.perm_tree.specs.declared.errors.TypeKind.TheVariants.{UnknownName, WrongKind, Gone}
 use Rattle.perm_tree.specs.Code.{Argument, Instruction, Declare, Assign, LoadField, LoadLength, LoadItem, TakeField, NewObject, NewArray, StoreField, StoreItem, Invoke, Print, Routine, UnitCode}
+use Rattle.perm_tree.specs.Lookup.{is_array}
 use Rattle.perm_tree.specs.Mentions.{any_in_term, any_in_argument, any_in_option, any_in_instruction}
 use Rattle.perm_tree.specs.Vars.{Vars}
-use Rattle.perm_rules.specs.Parts.{Context, Simple, type_of, field_type, field_in, field_among, if_known, is_object, is_long_array}
+use Rattle.perm_rules.specs.Parts.{Context, Simple, type_of, field_type, type_of_field, field_among, if_known, is_object}
 use Rattle.perm_rules.specs.Sorts.{term_sort, argument_sort, isnt_plain, isnt_value_of, term_wrong, argument_wrong, differ, isnt_long}
 use Rattle.perm_rules.specs.Shapes.{lacks_field, lacks_member, isnt_object, isnt_array, argument_misfits, arguments_misfit, shapes_differ, isnt_isolated, call_misfits, taker_type, instruction_wrong}
 use Rattle.perm_rules.specs.Liveness.{dead, after_argument, instruction_gone}
@@ -26,7 +27,7 @@ use Rattle.perm_meaning.specs.Names.{Name, Mark}
 use Rattle.perm_meaning.specs.Objects.{Objects, field_of}
 use Rattle.perm_meaning.specs.Expressions.{tagged, eval}
 use Rattle.perm_meaning.specs.Effects as effects
-use Rattle.perm_meaning.specs.Effects.{Load, Store, Take, Act, Calls, Effect, Does, Sticks, choose, with_vars, into_var, makes, ticks, first_vars, if_number, on_value, on_referred, on_object, on_class, on_routine, on_index, on_length, below_limit, effect}
+use Rattle.perm_meaning.specs.Effects.{Load, Store, Take, Act, Calls, Resumption, Does, Sticks, choose, with_vars, into_var, makes, ticks, first_vars, if_number, on_value, on_referred, on_object, on_class, on_routine, on_index, on_length, below_limit, effect}
 use Rattle.perm_meaning.specs.NamedHeap.{Held, Own, marks}
 use Rattle.perm_meaning.proofs.SameName.{eq_itself}
 use Rattle.perm_core.specs.Whole.{is_known_type}
@@ -47,7 +48,7 @@ object-type (Some Boolean) known e = absurd (cc)
 object-type (Some (Ref p Array)) known e = absurd (cc)
 object-type (Some (Ref p (Class k))) known e = (p, k, refl)
 
-pub array-type : (t : Option Ty) → is_none t ≡ false → if_known t (λ t. not (is_long_array t)) ≡ false → (p : Perm) × (t ≡ Some (Ref p Array))
+pub array-type : (t : Option Ty) → is_none t ≡ false → if_known t (λ t. not (is_array (Some t))) ≡ false → (p : Perm) × (t ≡ Some (Ref p Array))
 array-type None known e = absurd (cc)
 array-type (Some Long) known e = absurd (cc)
 array-type (Some Boolean) known e = absurd (cc)
@@ -84,7 +85,7 @@ module _ (u : UnitCode) (labels : Labels) (h : Objects Name) (c : Context) (G : 
     -- a field of a receiver that is there
     field-found : (y f : ℕ) (p : Perm) (k : ℕ) → type_of c y ≡ Some (Ref p (Class k)) → lacks_field c y f ≡ false → (r : Name) (n : ℕ) → slice_get l.vars y ≡ Some (Some (Reference r n)) → (v : Value Name) × (field_of h r f ≡ Some v)
     field-found y f p k type has r n q =
-        let field = there (field_in c.classes (Some (Ref p (Class k))) f) (sym (ap (λ t. if_known t is_object && is_none (field_in c.classes t f)) type) ∙ has) in
+        let field = there (type_of_field c.classes (Some (Ref p (Class k))) f) (sym (ap (λ t. if_known t is_object && is_none (type_of_field c.classes t f)) type) ∙ has) in
         field-there u labels h r k n f field.0 (s.fit r) (s.shaped y r n p (Class k) type q) (ap (λ z. field_among (slice_get z k) f) (sym s.classes) ∙ field.1)
 
     item-found : (y f : ℕ) (p : Perm) → type_of c y ≡ Some (Ref p Array) → (r : Name) (n : ℕ) → slice_get l.vars y ≡ Some (Some (Reference r n)) → nat_lt f n ≡ true → (v : Value Name) × (field_of h r f ≡ Some v)
@@ -166,7 +167,7 @@ module _ (u : UnitCode) (labels : Labels) (h : Objects Name) (c : Context) (G : 
         (object-goes h c G l.vars y t.0 Array (λ r n. on_index tagged k n (λ f. Does (Store r f (Some (Number x.0))) (λ w. effects.GoesOn l))) s.typed g'.1 t.1 (λ q n e.
         index-goes h k n (λ f. Does (Store q f (Some (Number x.0))) (λ w. effects.GoesOn l)) (λ f less. item-found y f t.0 t.1 q n e less)))))
       where
-        storing : ℕ → ℤ → Held → Effect Held Name Mark
+        storing : ℕ → ℤ → Held → Resumption Held Name Mark
         storing y k v = on_object tagged l.vars y (λ r n. on_index tagged k n (λ f. Does (Store r f v) (λ w. effects.GoesOn l)))
     instruction-goes (Print e) a =
         let long = or_parts (term_wrong c e) (isnt_plain (term_sort c e) Long) (right (Print e) a) in
@@ -182,7 +183,7 @@ module _ (u : UnitCode) (labels : Labels) (h : Objects Name) (c : Context) (G : 
         call-goes h c consumed y args G l.vars t.0 (Class t.1) (λ this found vs. on_referred tagged (tagged.as_reference this) (λ p n. on_routine tagged (slice_get u.routines m) found (λ r. calling this found vs r))) s.typed (live (Invoke into tie consumed y m args) a) r'.0 t.2
         (λ this more ws is count. called t.0 (Class t.1) this more ws found.0 (ap (λ z. slice_get z m) (sym s.routines) ∙ found.1) (count ∙ same-length c args found.0.params fits.0) is)
       where
-        calling : Held → List Held → List Held → Routine → Effect Held Name Mark
+        calling : Held → List Held → List Held → Routine → Resumption Held Name Mark
         calling this found vs r = below_limit tagged l.depth (Calls (record { routine = m; code = r.code; first = first_vars tagged r this found; tie = tie; receiver = this; y = y; into = into }) (with_vars tagged l vs))
 
         called : (p : Perm) (k : Shape) (this : Value Name) (found vs : List Held) (r : Routine) → slice_get u.routines m ≡ Some r → length found ≡ length r.params → IsOfType (Ref p k) this

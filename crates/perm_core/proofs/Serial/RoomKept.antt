@@ -9,7 +9,7 @@ use Rattle.perm_meaning.specs.Values.{Value, Eval, Gives, Traps, Mistyped}
 use Rattle.perm_meaning.specs.Names.{Name, Mark}
 use Rattle.perm_meaning.specs.Objects.{field_of}
 use Rattle.perm_meaning.specs.Expressions.{tagged, look_up, clear_all, eval, value_of}
-use Rattle.perm_meaning.specs.Effects.{Tick, Load, Store, Take, Make, Act, GoesOn, Calls, Halts, Effect, Does, Sticks, depth_limit, effect}
+use Rattle.perm_meaning.specs.Effects.{Tick, Load, Store, Take, Make, Act, GoesOn, Calls, Halts, Resumption, Does, Sticks, depth_limit, effect}
 use Rattle.perm_meaning.specs.Custody.{Moves}
 use Rattle.perm_meaning.specs.Machine.{Frame, OpenBlock, OpenRecover, OpenCall, Failure, NoRoom, Trapped, NoTurns, Close, Returning, Failing, Blocks, Leaf, Fork, Way, Here, GoL, GoR, Fine, GaveBack, Failed, Stage, Over, Due, over, stage_by_turns, stage_by_code, stage_from, stage, final, worse, join_final, if_both_over, Did, On, Splits, Ends, Dies, Turn, Takes, NoTurn, settled, done, next_turn, told_to, leaf_on, resumed, join_of, fill}
 use Rattle.perm_meaning.specs.NamedHeap.{Heap, Held, Op, Own, Branch, Task, Final, State, marks, memory, found, found_nothing, find}
@@ -46,7 +46,7 @@ acted-otherwise at rest st (GoesOn l) = tt
 acted-otherwise at rest st (Calls x l) = tt
 acted-otherwise at rest st (Halts k) = trapped-otherwise k at
 
-statement-otherwise : (at : Span) (rest : Code) (st : List (Frame Held)) (e : Effect Held Name Mark) → EndsOtherwise (turn_of tagged Moves at rest st e)
+statement-otherwise : (at : Span) (rest : Code) (st : List (Frame Held)) (e : Resumption Held Name Mark) → EndsOtherwise (turn_of tagged Moves at rest st e)
 statement-otherwise at rest st (Does o told) = λ v. acted-otherwise at rest st (told v)
 statement-otherwise at rest st Sticks = tt
 

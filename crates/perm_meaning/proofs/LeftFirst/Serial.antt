@@ -8,7 +8,7 @@ use Rattle.perm_meaning.specs.Expressions.{tagged, clear, look_up, eval, value_o
 use Rattle.perm_meaning.specs.Names.{Name, Mark}
 use Rattle.perm_meaning.specs.Machine.{OpenBlock, OpenRecover, OpenCall, NoTurns}
 use Rattle.perm_meaning.specs.Custody.{Copies}
-use Rattle.perm_meaning.specs.Effects.{choose, Act, GoesOn, Calls, Halts, Effect, Does, Sticks, depth_limit, effect}
+use Rattle.perm_meaning.specs.Effects.{choose, Act, GoesOn, Calls, Halts, Resumption, Does, Sticks, depth_limit, effect}
 use Rattle.perm_meaning.specs.Turns.{blocks, acted, turn_of}
 use Rattle.perm_meaning.specs.NamedHeap.{Heap, Held, Own, State, marks, named, memory, find, after}
 use Rattle.perm_meaning.specs.Steps.{Answer, Found, Refused, Missing}
@@ -41,7 +41,7 @@ module _ (u : UnitCode) (fits : ℕ → Bool) (t : ℕ) (again : Code → Moment
       (less x.code (record { turns = m.turns; own = record l { vars = x.first; routine = x.routine; depth = suc l.depth }; heap = h }) (OpenCall x.tie x.into x.y l.vars None l.routine rest ∷ st) lt))
 
   -- the turn of a simple statement
-  pub effect_to : (c : Code) (at : Span) (rest : Code) (st : List Frame) (m : Moment) (e : Effect Held Name Mark) → m.turns < t
+  pub effect_to : (c : Code) (at : Span) (rest : Code) (st : List Frame) (m : Moment) (e : Resumption Held Name Mark) → m.turns < t
       → TurnTo u fits c rest st m (turn_of tagged Copies at rest st e) (doing u fits again at e m)
   effect_to c at rest st m Sticks lt = tt
   effect_to c at rest st m (Does o told) lt = go (find fits o m.heap) (λ h v. act_follows c at rest st m h (told v) lt)

@@ -12,7 +12,7 @@ use Rattle.perm_meaning.specs.Expressions.{tagged, clear, cleared_slot, look_up,
 use Rattle.perm_meaning.specs.NamedHeap.{Held, Own, marks}
 use Rattle.perm_meaning.specs.Values.{Eval, Gives, Traps, Mistyped, Referred, ToNull, ToObject, NoReference}
 use Rattle.perm_meaning.specs.Names.{Name, Mark}
-use Rattle.perm_meaning.specs.Effects.{Store, Calling, Act, GoesOn, Calls, Halts, Effect, Does, Sticks, depth_limit, choose, first_vars, ticks, halts, with_vars, on_value, if_number, on_number, on_referred, on_object, on_argument, on_arguments, on_index, on_length, on_class, on_call, on_routine, below_limit, into_var, made, makes, effect}
+use Rattle.perm_meaning.specs.Effects.{Store, Calling, Act, GoesOn, Calls, Halts, Resumption, Does, Sticks, depth_limit, choose, first_vars, ticks, halts, with_vars, on_value, if_number, on_number, on_referred, on_object, on_argument, on_arguments, on_index, on_length, on_class, on_call, on_routine, below_limit, into_var, made, makes, effect}
 use Rattle.perm_meaning.specs.Custody.{Moves, while_called, lent_by}
 use Rattle.perm_meaning.specs.Turns.{lent_back}
 use Rattle.perm_meaning.specs.Steady.{AreApart, alters, KeepsLent, IsSteadyCode, IsSteady}
@@ -47,7 +47,7 @@ lent-comes-back Lends true into y m args v vs q e = absurd q
 lent-comes-back Lends false into y m args v vs q e = set-back vs y v (cleared_slot tagged (slice_get vs y)) (e refl)
 
 module _ (u : UnitCode) (steady : IsSteady u) (H J : Vars) (ms os : List Held) where
-  abbrev pub EffectHoldsFewer : Effect Held Name Mark → Effect Held Name Mark → Type 0
+  abbrev pub EffectHoldsFewer : Resumption Held Name Mark → Resumption Held Name Mark → Type 0
   EffectHoldsFewer Sticks e = Unit {0}
   EffectHoldsFewer (Does o told) Sticks = ⊥
   EffectHoldsFewer (Does o told) (Does p said) = (o ≡ p) × ((v : Held) → ActHoldsFewer H J ms os (told v) (said v))
@@ -65,40 +65,40 @@ module _ (u : UnitCode) (steady : IsSteady u) (H J : Vars) (ms os : List Held) w
   halts-fewer : (k : TrapKind) → EffectHoldsFewer (halts tagged k) (halts tagged k)
   halts-fewer k = (refl, λ v. traps)
 
-  value-fewer : (e f : Eval Held) (go go' : Held → Effect Held Name Mark) → EvalHoldsFewer e f → ((v : Held) → e ≡ Gives v → EffectHoldsFewer (go v) (go' v)) → EffectHoldsFewer (on_value tagged e go) (on_value tagged f go')
+  value-fewer : (e f : Eval Held) (go go' : Held → Resumption Held Name Mark) → EvalHoldsFewer e f → ((v : Held) → e ≡ Gives v → EffectHoldsFewer (go v) (go' v)) → EffectHoldsFewer (on_value tagged e go) (on_value tagged f go')
   value-fewer (Gives v) f go go' h k = subst (λ z. EffectHoldsFewer (go v) (on_value tagged z go')) (sym h) (k v refl)
   value-fewer (Traps t) f go go' h k = subst (λ z. EffectHoldsFewer (halts tagged t) (on_value tagged z go')) (sym h) (halts-fewer t)
   value-fewer Mistyped f go go' h k = tt
 
-  if-number-fewer : (o : Option ℤ) (go go' : ℤ → Effect Held Name Mark) → ((n : ℤ) → EffectHoldsFewer (go n) (go' n)) → EffectHoldsFewer (if_number tagged o go) (if_number tagged o go')
+  if-number-fewer : (o : Option ℤ) (go go' : ℤ → Resumption Held Name Mark) → ((n : ℤ) → EffectHoldsFewer (go n) (go' n)) → EffectHoldsFewer (if_number tagged o go) (if_number tagged o go')
   if-number-fewer None go go' k = tt
   if-number-fewer (Some n) go go' k = k n
 
-  number-fewer : (e f : Eval Held) (go go' : ℤ → Effect Held Name Mark) → EvalHoldsFewer e f → ((n : ℤ) → EffectHoldsFewer (go n) (go' n)) → EffectHoldsFewer (on_number tagged e go) (on_number tagged f go')
+  number-fewer : (e f : Eval Held) (go go' : ℤ → Resumption Held Name Mark) → EvalHoldsFewer e f → ((n : ℤ) → EffectHoldsFewer (go n) (go' n)) → EffectHoldsFewer (on_number tagged e go) (on_number tagged f go')
   number-fewer e f go go' h k = value-fewer e f (λ v. if_number tagged (tagged.as_number v) go) (λ v. if_number tagged (tagged.as_number v) go') h (λ v q. if-number-fewer (tagged.as_number v) go go' k)
 
-  referred-fewer : (r : Referred Name) (go go' : Name → ℕ → Effect Held Name Mark) → ((r : Name) (n : ℕ) → EffectHoldsFewer (go r n) (go' r n)) → EffectHoldsFewer (on_referred tagged r go) (on_referred tagged r go')
+  referred-fewer : (r : Referred Name) (go go' : Name → ℕ → Resumption Held Name Mark) → ((r : Name) (n : ℕ) → EffectHoldsFewer (go r n) (go' r n)) → EffectHoldsFewer (on_referred tagged r go) (on_referred tagged r go')
   referred-fewer (ToObject r n) go go' k = k r n
   referred-fewer ToNull go go' k = halts-fewer NullReference
   referred-fewer NoReference go go' k = tt
 
-  object-fewer : (vs ws : List Held) (y : ℕ) (go go' : Name → ℕ → Effect Held Name Mark) → AreParts vs ws → ((r : Name) (n : ℕ) → EffectHoldsFewer (go r n) (go' r n)) → EffectHoldsFewer (on_object tagged vs y go) (on_object tagged ws y go')
+  object-fewer : (vs ws : List Held) (y : ℕ) (go go' : Name → ℕ → Resumption Held Name Mark) → AreParts vs ws → ((r : Name) (n : ℕ) → EffectHoldsFewer (go r n) (go' r n)) → EffectHoldsFewer (on_object tagged vs y go) (on_object tagged ws y go')
   object-fewer vs ws y go go' h k = value-fewer (look_up tagged vs y) (look_up tagged ws y) (λ v. on_referred tagged (tagged.as_reference v) go) (λ v. on_referred tagged (tagged.as_reference v) go') (look-fewer vs ws y h) (λ v q. referred-fewer (tagged.as_reference v) go go' k)
 
-  argument-fewer : (a : Argument) (vs ws : List Held) (go go' : Held → List Held → Effect Held Name Mark) → AreApart H (argument_consumes a) → HoldsMeanwhile vs ws
+  argument-fewer : (a : Argument) (vs ws : List Held) (go go' : Held → List Held → Resumption Held Name Mark) → AreApart H (argument_consumes a) → HoldsMeanwhile vs ws
       → ((v : Held) (vs ws : List Held) → HoldsMeanwhile vs ws → EffectHoldsFewer (go v vs) (go' v ws)) → EffectHoldsFewer (on_argument tagged a vs go) (on_argument tagged a ws go')
   argument-fewer (Expression e) vs ws go go' a n k = value-fewer (eval tagged e vs) (eval tagged e ws) (λ v. go v vs) (λ v. go' v ws) (eval-fewer e vs ws n.part) (λ v z. k v vs ws n)
   argument-fewer (Consumed y) vs ws go go' a n k =
       value-fewer (look_up tagged vs y) (look_up tagged ws y) (λ v. go v (clear tagged vs y)) (λ v. go' v (clear tagged ws y)) (look-fewer vs ws y n.part) (λ v z. k v (clear tagged vs y) (clear tagged ws y) (now-clear vs ws y a n))
 
-  arguments-fewer : (args : List Argument) (found vs ws : List Held) (go go' : List Held → List Held → Effect Held Name Mark) → AreApart H (arguments_consume args) → HoldsMeanwhile vs ws
+  arguments-fewer : (args : List Argument) (found vs ws : List Held) (go go' : List Held → List Held → Resumption Held Name Mark) → AreApart H (arguments_consume args) → HoldsMeanwhile vs ws
       → ((found vs ws : List Held) → HoldsMeanwhile vs ws → EffectHoldsFewer (go found vs) (go' found ws)) → EffectHoldsFewer (on_arguments tagged args found vs go) (on_arguments tagged args found ws go')
   arguments-fewer [] found vs ws go go' a n k = k found vs ws n
   arguments-fewer (e ∷ rest) found vs ws go go' a n k =
       argument-fewer e vs ws (λ v vs. on_arguments tagged rest (found ++ v ∷ []) vs go) (λ v ws. on_arguments tagged rest (found ++ v ∷ []) ws go') (apart-left (argument_consumes e) (arguments_consume rest) a) n
       (λ v vs ws n. arguments-fewer rest (found ++ v ∷ []) vs ws go go' (apart-right (argument_consumes e) (arguments_consume rest) a) n k)
 
-  index-fewer : (i : ℤ) (n : ℕ) (go go' : ℕ → Effect Held Name Mark) → ((f : ℕ) → EffectHoldsFewer (go f) (go' f)) → EffectHoldsFewer (on_index tagged i n go) (on_index tagged i n go')
+  index-fewer : (i : ℤ) (n : ℕ) (go go' : ℕ → Resumption Held Name Mark) → ((f : ℕ) → EffectHoldsFewer (go f) (go' f)) → EffectHoldsFewer (on_index tagged i n go) (on_index tagged i n go')
   index-fewer (pos i) n go go' k = which (nat_lt i n)
     where
       which : (t : Bool) → EffectHoldsFewer (cond t (go i) (halts tagged IndexOutOfRange)) (cond t (go' i) (halts tagged IndexOutOfRange))
@@ -106,15 +106,15 @@ module _ (u : UnitCode) (steady : IsSteady u) (H J : Vars) (ms os : List Held) w
       which false = halts-fewer IndexOutOfRange
   index-fewer (negsuc i) n go go' k = halts-fewer IndexOutOfRange
 
-  length-fewer : (n : ℤ) (go go' : ℕ → Effect Held Name Mark) → ((n : ℕ) → EffectHoldsFewer (go n) (go' n)) → EffectHoldsFewer (on_length tagged n go) (on_length tagged n go')
+  length-fewer : (n : ℤ) (go go' : ℕ → Resumption Held Name Mark) → ((n : ℕ) → EffectHoldsFewer (go n) (go' n)) → EffectHoldsFewer (on_length tagged n go) (on_length tagged n go')
   length-fewer (pos n) go go' k = k n
   length-fewer (negsuc n) go go' k = halts-fewer Overflow
 
-  class-fewer : (o : Option (List Ty)) (go go' : ℕ → Effect Held Name Mark) → ((n : ℕ) → EffectHoldsFewer (go n) (go' n)) → EffectHoldsFewer (on_class tagged o go) (on_class tagged o go')
+  class-fewer : (o : Option (List Ty)) (go go' : ℕ → Resumption Held Name Mark) → ((n : ℕ) → EffectHoldsFewer (go n) (go' n)) → EffectHoldsFewer (on_class tagged o go) (on_class tagged o go')
   class-fewer None go go' k = tt
   class-fewer (Some ts) go go' k = k (length ts)
 
-  call-fewer : (consumed : Bool) (y : ℕ) (args : List Argument) (vs ws : List Held) (go go' : Held → List Held → List Held → Effect Held Name Mark) → AreApart H (just_if consumed y) → AreApart H (arguments_consume args) → HoldsMeanwhile vs ws
+  call-fewer : (consumed : Bool) (y : ℕ) (args : List Argument) (vs ws : List Held) (go go' : Held → List Held → List Held → Resumption Held Name Mark) → AreApart H (just_if consumed y) → AreApart H (arguments_consume args) → HoldsMeanwhile vs ws
       → ((v : Held) (found vs ws : List Held) → HoldsMeanwhile vs ws → (consumed ≡ false → slice_get vs y ≡ Some v) → EffectHoldsFewer (go v found vs) (go' v found ws)) → EffectHoldsFewer (on_call tagged consumed y args vs go) (on_call tagged consumed y args ws go')
   call-fewer true y args vs ws go go' a b n k =
       value-fewer (look_up tagged vs y) (look_up tagged ws y) (λ v. on_arguments tagged args [] (clear tagged vs y) (λ found vs. go v found vs)) (λ v. on_arguments tagged args [] (clear tagged ws y) (λ found ws. go' v found ws)) (look-fewer vs ws y n.part)
@@ -123,7 +123,7 @@ module _ (u : UnitCode) (steady : IsSteady u) (H J : Vars) (ms os : List Held) w
       arguments-fewer args [] vs ws (λ found vs. on_value tagged (look_up tagged vs y) (λ v. go v found vs)) (λ found ws. on_value tagged (look_up tagged ws y) (λ v. go' v found ws)) b n
       (λ found vs ws n. value-fewer (look_up tagged vs y) (look_up tagged ws y) (λ v. go v found vs) (λ v. go' v found ws) (look-fewer vs ws y n.part) (λ v z. k v found vs ws n (λ e. read-variable (slice_get vs y) v z)))
 
-  routine-fewer : (o : Option Routine) (found : List Held) (go go' : Routine → Effect Held Name Mark) → ((r : Routine) → o ≡ Some r → EffectHoldsFewer (go r) (go' r)) → EffectHoldsFewer (on_routine tagged o found go) (on_routine tagged o found go')
+  routine-fewer : (o : Option Routine) (found : List Held) (go go' : Routine → Resumption Held Name Mark) → ((r : Routine) → o ≡ Some r → EffectHoldsFewer (go r) (go' r)) → EffectHoldsFewer (on_routine tagged o found go) (on_routine tagged o found go')
   routine-fewer None found go go' k = tt
   routine-fewer (Some r) found go go' k = which (nat_eq (length found) (length r.params))
     where

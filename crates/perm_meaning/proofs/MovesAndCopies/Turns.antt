@@ -14,7 +14,7 @@ use Rattle.perm_meaning.specs.Expressions.{tagged, clear, clear_all, assign_into
 use Rattle.perm_meaning.specs.NamedHeap.{Held, Own, marks, Op}
 use Rattle.perm_meaning.specs.Values.{Eval, Gives, Traps, Mistyped}
 use Rattle.perm_meaning.specs.Names.{Name, Mark}
-use Rattle.perm_meaning.specs.Effects.{Act, Effect, Does, Sticks, depth_limit, effect}
+use Rattle.perm_meaning.specs.Effects.{Act, Resumption, Does, Sticks, depth_limit, effect}
 use Rattle.perm_meaning.specs.Machine.{Turn, Takes, NoTurn, OpenRecover, Splits}
 use Rattle.perm_meaning.specs.Steady.{AreApart, given_var, GivesOnlyTo, alters, changed, IsSteadyCode, IsSteady}
 use Rattle.perm_meaning.specs.HoldsFewer.{Frame, IsPart, AreParts, IsPartAt, ArePartsOn, AreKept, AreLaidBy, hidden, FitsStacks, at_base, at_block, left_of, LeavesAlone, in_block, in_recover, in_call, DidHoldsFewer, on, splits, ends, dies, at_recover, at_call}
@@ -104,7 +104,7 @@ module _ (u : UnitCode) (steady : IsSteady u) {K : Vars} {vp : List Held} (l : O
       (in_call d' (side-other-variables i (subst (λ z. ArePartsOn (left_of K st) z vp) (sym e) (on-then (left_of K st) n.vars l.vars vp j (side-variables i)))))
   acted-fewer at rest a a' s b i traps = dies
 
-  statement-fewer : (at : Span) (rest : Code) {st st' : List Frame} (e e' : Effect Held Name Mark) → IsSteadyCode rest → FitsStacks (length vp) rest ws st st' → LeavesAlone K vp rest l.vars st → EffectHoldsFewer u steady (hidden st') (left_of K st) l.vars ws e e'
+  statement-fewer : (at : Span) (rest : Code) {st st' : List Frame} (e e' : Resumption Held Name Mark) → IsSteadyCode rest → FitsStacks (length vp) rest ws st st' → LeavesAlone K vp rest l.vars st → EffectHoldsFewer u steady (hidden st') (left_of K st) l.vars ws e e'
       → TurnHoldsFewer K vp l ws st st' (turn_of tagged Moves at rest st e) (turn_of tagged Copies at rest st' e')
   statement-fewer at rest Sticks e' s b i q = tt
   statement-fewer at rest (Does o told) Sticks s b i q = absurd q

@@ -13,7 +13,7 @@ use Rattle.perm_meaning.specs.Words.{words, number_word, reference_in}
 use Rattle.perm_meaning.specs.Expressions.{tagged, slot_reference, cleared_slot, clear, clear_all, look_up, eval}
 use Rattle.perm_meaning.specs.Names.{Name, Mark}
 use Rattle.perm_meaning.specs.Objects.{zero_of, types_or_none, first_values}
-use Rattle.perm_meaning.specs.Effects.{Load, Store, Take, Calling, Act, GoesOn, Calls, Halts, Effect, Does, Sticks, depth_limit, choose, first_vars, ticks, halts, with_vars, on_value, if_number, on_number, on_referred, on_object, on_argument, on_arguments, on_index, on_length, on_class, on_call, on_routine, below_limit, into_var, makes, effect}
+use Rattle.perm_meaning.specs.Effects.{Load, Store, Take, Calling, Act, GoesOn, Calls, Halts, Resumption, Does, Sticks, depth_limit, choose, first_vars, ticks, halts, with_vars, on_value, if_number, on_number, on_referred, on_object, on_argument, on_arguments, on_index, on_length, on_class, on_call, on_routine, below_limit, into_var, makes, effect}
 use Rattle.perm_meaning.specs.NamedHeap as named
 use Rattle.perm_meaning.specs.NamedHeap.{Held, marks}
 use Rattle.perm_meaning.specs.WordHeap as worded
@@ -80,7 +80,7 @@ module _ (u : UnitCode) where
   ActR b _ _ = ⊥
 
   -- effects
-  abbrev pub EffectR : Bases → Effect Held Name Mark → Effect ℕ ℕ NoMark → Type 0
+  abbrev pub EffectR : Bases → Resumption Held Name Mark → Resumption ℕ ℕ NoMark → Type 0
   EffectR b Sticks e = Unit {0}
   EffectR b (Does o told) Sticks = ⊥
   EffectR b (Does o told) (Does p said) = Asks u b o p × ((c : Bases) → Grows b c → (v : Held) (w : ℕ) → IsWordOf c v w → ActR c (told v) (said w))
@@ -92,7 +92,7 @@ module _ (u : UnitCode) where
   goes_alike : (b : Bases) (l : named.Own) (m : worded.Own) → Owns b l m → EffectR b (ticks tagged (GoesOn l)) (ticks words (GoesOn m))
   goes_alike b l m h = ((tt, tt), λ c g v w r. owns_grow b c g l m h)
 
-  value_to : (b : Bases) (e : Eval Held) (f : Eval ℕ) (go : Held → Effect Held Name Mark) (go' : ℕ → Effect ℕ ℕ NoMark) → EvalR b e f → ((v : Value Name) (w : ℕ) → IsWordOf b (Some v) w → EffectR b (go (Some v)) (go' w))
+  value_to : (b : Bases) (e : Eval Held) (f : Eval ℕ) (go : Held → Resumption Held Name Mark) (go' : ℕ → Resumption ℕ ℕ NoMark) → EvalR b e f → ((v : Value Name) (w : ℕ) → IsWordOf b (Some v) w → EffectR b (go (Some v)) (go' w))
       → EffectR b (on_value tagged e go) (on_value words f go')
   value_to b (Gives (Some v)) (Gives w) go go' h k = k v w h
   value_to b (Gives (Some v)) (Traps j) go go' h k = absurd h
@@ -103,41 +103,41 @@ module _ (u : UnitCode) where
   value_to b (Traps t) Mistyped go go' h k = absurd h
   value_to b Mistyped f go go' h k = tt
 
-  if_to : (b : Bases) (v : Value Name) (w : ℕ) (go : ℤ → Effect Held Name Mark) (go' : ℤ → Effect ℕ ℕ NoMark) → IsWordOf b (Some v) w → ((n : ℤ) → EffectR b (go n) (go' n)) → EffectR b (if_number tagged (tagged.as_number (Some v)) go) (if_number words (words.as_number w) go')
+  if_to : (b : Bases) (v : Value Name) (w : ℕ) (go : ℤ → Resumption Held Name Mark) (go' : ℤ → Resumption ℕ ℕ NoMark) → IsWordOf b (Some v) w → ((n : ℤ) → EffectR b (go n) (go' n)) → EffectR b (if_number tagged (tagged.as_number (Some v)) go) (if_number words (words.as_number w) go')
   if_to b (Number n) w go go' h k = subst (λ z. EffectR b (go n) (go' z)) h.0 (k n)
   if_to b (Truth t) w go go' h k = tt
   if_to b Null w go go' h k = tt
   if_to b (Reference r n) w go go' h k = tt
 
-  number_to : (b : Bases) (e : Eval Held) (f : Eval ℕ) (go : ℤ → Effect Held Name Mark) (go' : ℤ → Effect ℕ ℕ NoMark) → EvalR b e f → ((n : ℤ) → EffectR b (go n) (go' n)) → EffectR b (on_number tagged e go) (on_number words f go')
+  number_to : (b : Bases) (e : Eval Held) (f : Eval ℕ) (go : ℤ → Resumption Held Name Mark) (go' : ℤ → Resumption ℕ ℕ NoMark) → EvalR b e f → ((n : ℤ) → EffectR b (go n) (go' n)) → EffectR b (on_number tagged e go) (on_number words f go')
   number_to b e f go go' h k = value_to b e f (λ v. if_number tagged (tagged.as_number v) go) (λ w. if_number words (words.as_number w) go') h (λ v w r. if_to b v w go go' r k)
 
-  referred_to : (b : Bases) (v : Value Name) (w : ℕ) (go : Name → ℕ → Effect Held Name Mark) (go' : ℕ → ℕ → Effect ℕ ℕ NoMark) → IsWordOf b (Some v) w → ((r : Name) (k n : ℕ) → b r ≡ Some k → n < 2 ^ 32 → EffectR b (go r n) (go' k n))
+  referred_to : (b : Bases) (v : Value Name) (w : ℕ) (go : Name → ℕ → Resumption Held Name Mark) (go' : ℕ → ℕ → Resumption ℕ ℕ NoMark) → IsWordOf b (Some v) w → ((r : Name) (k n : ℕ) → b r ≡ Some k → n < 2 ^ 32 → EffectR b (go r n) (go' k n))
       → EffectR b (on_referred tagged (slot_reference (Some v)) go) (on_referred words (reference_in w) go')
   referred_to b (Number n) w go go' h k = tt
   referred_to b (Truth t) w go go' h k = tt
   referred_to b Null w go go' h k = subst (λ z. EffectR b (halts tagged NullReference) (on_referred words (reference_in z) go')) (sym h) (halts_alike b NullReference NullReference refl)
   referred_to b (Reference r n) w go go' h k = subst (λ z. EffectR b (go r n) (on_referred words z go')) (sym (ap reference_in h.4 ∙ decoded h.0 n h.2)) (k r h.0 n h.1 h.3)
 
-  object_to : (b : Bases) (vs : List Held) (ws : List ℕ) (y : ℕ) (go : Name → ℕ → Effect Held Name Mark) (go' : ℕ → ℕ → Effect ℕ ℕ NoMark) → Vars b vs ws → ((r : Name) (k n : ℕ) → b r ≡ Some k → n < 2 ^ 32 → EffectR b (go r n) (go' k n))
+  object_to : (b : Bases) (vs : List Held) (ws : List ℕ) (y : ℕ) (go : Name → ℕ → Resumption Held Name Mark) (go' : ℕ → ℕ → Resumption ℕ ℕ NoMark) → Vars b vs ws → ((r : Name) (k n : ℕ) → b r ≡ Some k → n < 2 ^ 32 → EffectR b (go r n) (go' k n))
       → EffectR b (on_object tagged vs y go) (on_object words ws y go')
   object_to b vs ws y go go' h k =
       value_to b (look_up tagged vs y) (look_up words ws y) (λ v. on_referred tagged (tagged.as_reference v) go) (λ w. on_referred words (words.as_reference w) go') (look_up_alike b vs ws y h) (λ v w r. referred_to b v w go go' r k)
 
-  argument_to : (b : Bases) (a : Argument) (vs : List Held) (ws : List ℕ) (go : Held → List Held → Effect Held Name Mark) (go' : ℕ → List ℕ → Effect ℕ ℕ NoMark) → ArgumentFits a → Vars b vs ws
+  argument_to : (b : Bases) (a : Argument) (vs : List Held) (ws : List ℕ) (go : Held → List Held → Resumption Held Name Mark) (go' : ℕ → List ℕ → Resumption ℕ ℕ NoMark) → ArgumentFits a → Vars b vs ws
       → ((v : Value Name) (w : ℕ) (vs : List Held) (ws : List ℕ) → IsWordOf b (Some v) w → Vars b vs ws → EffectR b (go (Some v) vs) (go' w ws)) → EffectR b (on_argument tagged a vs go) (on_argument words a ws go')
   argument_to b (Expression e) vs ws go go' f h k = value_to b (eval tagged e vs) (eval words e ws) (λ v. go v vs) (λ w. go' w ws) (eval_alike b e vs ws f h) (λ v w r. k v w vs ws r h)
   argument_to b (Consumed y) vs ws go go' f h k =
       value_to b (look_up tagged vs y) (look_up words ws y) (λ v. go v (clear tagged vs y)) (λ w. go' w (clear words ws y)) (look_up_alike b vs ws y h) (λ v w r. k v w (clear tagged vs y) (clear words ws y) r (clear_alike b vs ws y h))
 
-  arguments_to : (b : Bases) (as' : List Argument) (found vs : List Held) (found' ws : List ℕ) (go : List Held → List Held → Effect Held Name Mark) (go' : List ℕ → List ℕ → Effect ℕ ℕ NoMark) → ArgumentsFit as' → Vars b found found' → Vars b vs ws
+  arguments_to : (b : Bases) (as' : List Argument) (found vs : List Held) (found' ws : List ℕ) (go : List Held → List Held → Resumption Held Name Mark) (go' : List ℕ → List ℕ → Resumption ℕ ℕ NoMark) → ArgumentsFit as' → Vars b found found' → Vars b vs ws
       → ((found : List Held) (found' : List ℕ) (vs : List Held) (ws : List ℕ) → Vars b found found' → Vars b vs ws → EffectR b (go found vs) (go' found' ws)) → EffectR b (on_arguments tagged as' found vs go) (on_arguments words as' found' ws go')
   arguments_to b [] found vs found' ws go go' f q h k = k found found' vs ws q h
   arguments_to b (a ∷ rest) found vs found' ws go go' f q h k =
       argument_to b a vs ws (λ v vs. on_arguments tagged rest (found ++ v ∷ []) vs go) (λ w ws. on_arguments words rest (found' ++ w ∷ []) ws go') f.0 h
       (λ v w vs ws r h. arguments_to b rest (found ++ Some v ∷ []) vs (found' ++ w ∷ []) ws go go' f.1 (vars_append (IsWordOf b) found found' (Some v ∷ []) (w ∷ []) q (r, tt)) h k)
 
-  index_to : (b : Bases) (i : ℤ) (n : ℕ) (go : ℕ → Effect Held Name Mark) (go' : ℕ → Effect ℕ ℕ NoMark) → ((f : ℕ) → EffectR b (go f) (go' f)) → EffectR b (on_index tagged i n go) (on_index words i n go')
+  index_to : (b : Bases) (i : ℤ) (n : ℕ) (go : ℕ → Resumption Held Name Mark) (go' : ℕ → Resumption ℕ ℕ NoMark) → ((f : ℕ) → EffectR b (go f) (go' f)) → EffectR b (on_index tagged i n go) (on_index words i n go')
   index_to b (pos i) n go go' k = which (nat_lt i n)
     where
       which : (t : Bool) → EffectR b (cond t (go i) (halts tagged IndexOutOfRange)) (cond t (go' i) (halts words IndexOutOfRange))
@@ -145,15 +145,15 @@ module _ (u : UnitCode) where
       which false = halts_alike b IndexOutOfRange IndexOutOfRange refl
   index_to b (negsuc i) n go go' k = halts_alike b IndexOutOfRange IndexOutOfRange refl
 
-  length_to : (b : Bases) (n : ℤ) (go : ℕ → Effect Held Name Mark) (go' : ℕ → Effect ℕ ℕ NoMark) → ((n : ℕ) → EffectR b (go n) (go' n)) → EffectR b (on_length tagged n go) (on_length words n go')
+  length_to : (b : Bases) (n : ℤ) (go : ℕ → Resumption Held Name Mark) (go' : ℕ → Resumption ℕ ℕ NoMark) → ((n : ℕ) → EffectR b (go n) (go' n)) → EffectR b (on_length tagged n go) (on_length words n go')
   length_to b (pos n) go go' k = k n
   length_to b (negsuc n) go go' k = halts_alike b Overflow Overflow refl
 
-  class_to : (b : Bases) (o : Option (List Ty)) (go : ℕ → Effect Held Name Mark) (go' : ℕ → Effect ℕ ℕ NoMark) → ((ts : List Ty) → o ≡ Some ts → EffectR b (go (length ts)) (go' (length ts))) → EffectR b (on_class tagged o go) (on_class words o go')
+  class_to : (b : Bases) (o : Option (List Ty)) (go : ℕ → Resumption Held Name Mark) (go' : ℕ → Resumption ℕ ℕ NoMark) → ((ts : List Ty) → o ≡ Some ts → EffectR b (go (length ts)) (go' (length ts))) → EffectR b (on_class tagged o go) (on_class words o go')
   class_to b None go go' k = tt
   class_to b (Some ts) go go' k = k ts refl
 
-  call_to : (b : Bases) (consumed : Bool) (y : ℕ) (args : List Argument) (vs : List Held) (ws : List ℕ) (go : Held → List Held → List Held → Effect Held Name Mark) (go' : ℕ → List ℕ → List ℕ → Effect ℕ ℕ NoMark) → ArgumentsFit args → Vars b vs ws
+  call_to : (b : Bases) (consumed : Bool) (y : ℕ) (args : List Argument) (vs : List Held) (ws : List ℕ) (go : Held → List Held → List Held → Resumption Held Name Mark) (go' : ℕ → List ℕ → List ℕ → Resumption ℕ ℕ NoMark) → ArgumentsFit args → Vars b vs ws
       → ((v : Value Name) (w : ℕ) (found : List Held) (found' : List ℕ) (vs : List Held) (ws : List ℕ) → IsWordOf b (Some v) w → Vars b found found' → Vars b vs ws → EffectR b (go (Some v) found vs) (go' w found' ws))
       → EffectR b (on_call tagged consumed y args vs go) (on_call words consumed y args ws go')
   call_to b true y args vs ws go go' f h k =
@@ -163,7 +163,7 @@ module _ (u : UnitCode) where
       arguments_to b args [] vs [] ws (λ found vs. on_value tagged (look_up tagged vs y) (λ v. go v found vs)) (λ found ws. on_value words (look_up words ws y) (λ w. go' w found ws)) f tt h
       (λ found found' vs ws q h. value_to b (look_up tagged vs y) (look_up words ws y) (λ v. go v found vs) (λ w. go' w found' ws) (look_up_alike b vs ws y h) (λ v w r. k v w found found' vs ws r q h))
 
-  routine_to : (b : Bases) (o : Option Routine) (args : List Held) (args' : List ℕ) (go : Routine → Effect Held Name Mark) (go' : Routine → Effect ℕ ℕ NoMark) → Vars b args args' → ((r : Routine) → EffectR b (go r) (go' r))
+  routine_to : (b : Bases) (o : Option Routine) (args : List Held) (args' : List ℕ) (go : Routine → Resumption Held Name Mark) (go' : Routine → Resumption ℕ ℕ NoMark) → Vars b args args' → ((r : Routine) → EffectR b (go r) (go' r))
       → EffectR b (on_routine tagged o args go) (on_routine words o args' go')
   routine_to b None args args' go go' h k = tt
   routine_to b (Some r) args args' go go' h k = subst (λ n. EffectR b (choose (nat_eq (length args) (length r.params)) go (λ r. Sticks) r) (choose (nat_eq n (length r.params)) go' (λ r. Sticks) r)) (vars_length (IsWordOf b) args args' h) (which (nat_eq (length args) (length r.params)))

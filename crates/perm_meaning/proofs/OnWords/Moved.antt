@@ -9,7 +9,7 @@ use Rattle.perm_meaning.specs.Values.{Eval, Gives, Traps, Mistyped, Referred, To
 use Rattle.perm_meaning.specs.Expressions.{tagged, clear, look_up, eval, value_of}
 use Rattle.perm_meaning.specs.Names.{Name, Mark, after_object}
 use Rattle.perm_meaning.specs.Machine.{Frame, OpenBlock, OpenRecover, OpenCall, Did, On, Splits, Ends, Dies, Turn, Takes, NoTurn}
-use Rattle.perm_meaning.specs.Effects.{Tick, Load, Store, Take, Make, Act, GoesOn, Calls, Halts, Effect, Does, Sticks, depth_limit, choose, halts, ticks, on_value, if_number, on_number, on_referred, on_object, on_argument, on_arguments, on_index, on_length, on_class, on_call, on_routine, below_limit, effect}
+use Rattle.perm_meaning.specs.Effects.{Tick, Load, Store, Take, Make, Act, GoesOn, Calls, Halts, Resumption, Does, Sticks, depth_limit, choose, halts, ticks, on_value, if_number, on_number, on_referred, on_object, on_argument, on_arguments, on_index, on_length, on_class, on_call, on_routine, below_limit, effect}
 use Rattle.perm_meaning.specs.Custody.{Custody}
 use Rattle.perm_meaning.specs.Turns as turns
 use Rattle.perm_meaning.specs.Turns.{blocks, tick, trap, returned, acted, turn_of, by_truth, on_test, given_back, turn}
@@ -37,7 +37,7 @@ ActMoved o g (GoesOn l) = l.mark ≡ g
 ActMoved o g (Calls x l) = (l.mark ≡ g) × CodeFits x.code
 ActMoved o g (Halts t) = Unit {0}
 
-abbrev EffectMoved : Mark → Effect Held Name Mark → Type 0
+abbrev EffectMoved : Mark → Resumption Held Name Mark → Type 0
 EffectMoved g Sticks = Unit {0}
 EffectMoved g (Does o told) = (v : Held) → ActMoved o g (told v)
 
@@ -48,35 +48,35 @@ routine_fits (x ∷ rs) zero r f e = subst (λ (z : Routine). CodeFits z.code) (
 routine_fits (x ∷ rs) (suc m) r f e = routine_fits rs m r f.1 e
 
 module _ (u : UnitCode) (fits : UnitFits u) (g : Mark) where
-  m_value : (e : Eval Held) (go : Held → Effect Held Name Mark) → ((v : Held) → EffectMoved g (go v)) → EffectMoved g (on_value tagged e go)
+  m_value : (e : Eval Held) (go : Held → Resumption Held Name Mark) → ((v : Held) → EffectMoved g (go v)) → EffectMoved g (on_value tagged e go)
   m_value (Gives v) go k = k v
   m_value (Traps t) go k = λ v. tt
   m_value Mistyped go k = tt
 
-  m_if : (o : Option ℤ) (go : ℤ → Effect Held Name Mark) → ((n : ℤ) → EffectMoved g (go n)) → EffectMoved g (if_number tagged o go)
+  m_if : (o : Option ℤ) (go : ℤ → Resumption Held Name Mark) → ((n : ℤ) → EffectMoved g (go n)) → EffectMoved g (if_number tagged o go)
   m_if None go k = tt
   m_if (Some n) go k = k n
 
-  m_number : (e : Eval Held) (go : ℤ → Effect Held Name Mark) → ((n : ℤ) → EffectMoved g (go n)) → EffectMoved g (on_number tagged e go)
+  m_number : (e : Eval Held) (go : ℤ → Resumption Held Name Mark) → ((n : ℤ) → EffectMoved g (go n)) → EffectMoved g (on_number tagged e go)
   m_number e go k = m_value e (λ v. if_number tagged (tagged.as_number v) go) (λ v. m_if (tagged.as_number v) go k)
 
-  m_referred : (r : Referred Name) (go : Name → ℕ → Effect Held Name Mark) → ((r : Name) (n : ℕ) → EffectMoved g (go r n)) → EffectMoved g (on_referred tagged r go)
+  m_referred : (r : Referred Name) (go : Name → ℕ → Resumption Held Name Mark) → ((r : Name) (n : ℕ) → EffectMoved g (go r n)) → EffectMoved g (on_referred tagged r go)
   m_referred (ToObject r n) go k = k r n
   m_referred ToNull go k = λ v. tt
   m_referred NoReference go k = tt
 
-  m_object : (vs : List Held) (y : ℕ) (go : Name → ℕ → Effect Held Name Mark) → ((r : Name) (n : ℕ) → EffectMoved g (go r n)) → EffectMoved g (on_object tagged vs y go)
+  m_object : (vs : List Held) (y : ℕ) (go : Name → ℕ → Resumption Held Name Mark) → ((r : Name) (n : ℕ) → EffectMoved g (go r n)) → EffectMoved g (on_object tagged vs y go)
   m_object vs y go k = m_value (look_up tagged vs y) (λ v. on_referred tagged (tagged.as_reference v) go) (λ v. m_referred (tagged.as_reference v) go k)
 
-  m_argument : (a : Argument) (vs : List Held) (go : Held → List Held → Effect Held Name Mark) → ((v : Held) (vs : List Held) → EffectMoved g (go v vs)) → EffectMoved g (on_argument tagged a vs go)
+  m_argument : (a : Argument) (vs : List Held) (go : Held → List Held → Resumption Held Name Mark) → ((v : Held) (vs : List Held) → EffectMoved g (go v vs)) → EffectMoved g (on_argument tagged a vs go)
   m_argument (Expression e) vs go k = m_value (eval tagged e vs) (λ v. go v vs) (λ v. k v vs)
   m_argument (Consumed y) vs go k = m_value (look_up tagged vs y) (λ v. go v (clear tagged vs y)) (λ v. k v (clear tagged vs y))
 
-  m_arguments : (args : List Argument) (found vs : List Held) (go : List Held → List Held → Effect Held Name Mark) → ((found vs : List Held) → EffectMoved g (go found vs)) → EffectMoved g (on_arguments tagged args found vs go)
+  m_arguments : (args : List Argument) (found vs : List Held) (go : List Held → List Held → Resumption Held Name Mark) → ((found vs : List Held) → EffectMoved g (go found vs)) → EffectMoved g (on_arguments tagged args found vs go)
   m_arguments [] found vs go k = k found vs
   m_arguments (a ∷ rest) found vs go k = m_argument a vs (λ v vs. on_arguments tagged rest (found ++ v ∷ []) vs go) (λ v vs. m_arguments rest (found ++ v ∷ []) vs go k)
 
-  m_index : (i : ℤ) (n : ℕ) (go : ℕ → Effect Held Name Mark) → ((f : ℕ) → EffectMoved g (go f)) → EffectMoved g (on_index tagged i n go)
+  m_index : (i : ℤ) (n : ℕ) (go : ℕ → Resumption Held Name Mark) → ((f : ℕ) → EffectMoved g (go f)) → EffectMoved g (on_index tagged i n go)
   m_index (pos i) n go k = which (nat_lt i n)
     where
       which : (t : Bool) → EffectMoved g (cond t (go i) (halts tagged IndexOutOfRange))
@@ -84,21 +84,21 @@ module _ (u : UnitCode) (fits : UnitFits u) (g : Mark) where
       which false = λ v. tt
   m_index (negsuc i) n go k = λ v. tt
 
-  m_length : (n : ℤ) (go : ℕ → Effect Held Name Mark) → ((n : ℕ) → EffectMoved g (go n)) → EffectMoved g (on_length tagged n go)
+  m_length : (n : ℤ) (go : ℕ → Resumption Held Name Mark) → ((n : ℕ) → EffectMoved g (go n)) → EffectMoved g (on_length tagged n go)
   m_length (pos n) go k = k n
   m_length (negsuc n) go k = λ v. tt
 
-  m_class : (o : Option (List Ty)) (go : ℕ → Effect Held Name Mark) → ((n : ℕ) → EffectMoved g (go n)) → EffectMoved g (on_class tagged o go)
+  m_class : (o : Option (List Ty)) (go : ℕ → Resumption Held Name Mark) → ((n : ℕ) → EffectMoved g (go n)) → EffectMoved g (on_class tagged o go)
   m_class None go k = tt
   m_class (Some ts) go k = k (length ts)
 
-  m_call : (consumed : Bool) (y : ℕ) (args : List Argument) (vs : List Held) (go : Held → List Held → List Held → Effect Held Name Mark) → ((v : Held) (found vs : List Held) → EffectMoved g (go v found vs)) → EffectMoved g (on_call tagged consumed y args vs go)
+  m_call : (consumed : Bool) (y : ℕ) (args : List Argument) (vs : List Held) (go : Held → List Held → List Held → Resumption Held Name Mark) → ((v : Held) (found vs : List Held) → EffectMoved g (go v found vs)) → EffectMoved g (on_call tagged consumed y args vs go)
   m_call true y args vs go k =
       m_value (look_up tagged vs y) (λ v. on_arguments tagged args [] (clear tagged vs y) (λ found vs. go v found vs)) (λ v. m_arguments args [] (clear tagged vs y) (λ found vs. go v found vs) (λ found vs. k v found vs))
   m_call false y args vs go k =
       m_arguments args [] vs (λ found vs. on_value tagged (look_up tagged vs y) (λ v. go v found vs)) (λ found vs. m_value (look_up tagged vs y) (λ v. go v found vs) (λ v. k v found vs))
 
-  m_routine : (o : Option Routine) (args : List Held) (go : Routine → Effect Held Name Mark) → ((r : Routine) → o ≡ Some r → EffectMoved g (go r)) → EffectMoved g (on_routine tagged o args go)
+  m_routine : (o : Option Routine) (args : List Held) (go : Routine → Resumption Held Name Mark) → ((r : Routine) → o ≡ Some r → EffectMoved g (go r)) → EffectMoved g (on_routine tagged o args go)
   m_routine None args go k = tt
   m_routine (Some r) args go k = which (nat_eq (length args) (length r.params))
     where
@@ -160,7 +160,7 @@ module _ (u : UnitCode) (fits : UnitFits u) (g : Mark) where
     acted_moved (Take r i) at rest st (Calls x l) f k h = (h.0, h.1, (f, k))
     acted_moved (Take r i) at rest st (Halts t) f k h = tt
 
-    statement_moved : (at : Span) (rest : Code) (st : List (Frame Held)) (e : Effect Held Name Mark) → CodeFits rest → StackFits st → EffectMoved g e → TurnMoved (turn_of tagged c at rest st e)
+    statement_moved : (at : Span) (rest : Code) (st : List (Frame Held)) (e : Resumption Held Name Mark) → CodeFits rest → StackFits st → EffectMoved g e → TurnMoved (turn_of tagged c at rest st e)
     statement_moved at rest st Sticks f k h = tt
     statement_moved at rest st (Does o told) f k h = λ v. acted_moved o at rest st (told v) f k (h v)
 

@@ -11,7 +11,7 @@ use Rattle.perm_meaning.specs.Words.{words}
 use Rattle.perm_meaning.specs.Expressions.{tagged, assign, assign_into, look_up, clear, clear_all, eval, value_of}
 use Rattle.perm_meaning.specs.Names.{Name, Mark}
 use Rattle.perm_meaning.specs.Machine.{Frame, OpenBlock, OpenRecover, OpenCall, Blocks, Trapped, On, Splits, Turn}
-use Rattle.perm_meaning.specs.Effects.{Calling, Act, GoesOn, Calls, Halts, Effect, Does, Sticks, depth_limit, effect}
+use Rattle.perm_meaning.specs.Effects.{Calling, Act, GoesOn, Calls, Halts, Resumption, Does, Sticks, depth_limit, effect}
 use Rattle.perm_meaning.specs.Custody.{Custody, Copies, Moves, parting, only_at, only, within_recover, laid_by, back_from_recover, while_called, lent_by, mentions_l, mentions_r, writes_l, writes_r, back_l, back_r, in_neither}
 use Rattle.perm_meaning.specs.Turns.{blocks, lent_back, tick, trap, called, returned, acted, turn_of, on_value, by_truth, on_test, given_back, turn}
 use Rattle.perm_meaning.specs.NamedHeap as on_names
@@ -158,7 +158,7 @@ module _ (c : Custody) (u : UnitCode) where
   acted_alike b at rest st st' (Halts t) (GoesOn m) k h = absurd h
   acted_alike b at rest st st' (Halts t) (Calls y m) k h = absurd h
 
-  statement_alike : (b : Bases) (at : Span) (rest : Code) (st : List (Frame Held)) (st' : List (Frame ℕ)) (e : Effect Held Name Mark) (e' : Effect ℕ ℕ NoMark) → Stacks b st st' → EffectR u b e e' → TurnsR b (turn_of tagged c at rest st e) (turn_of words c at rest st' e')
+  statement_alike : (b : Bases) (at : Span) (rest : Code) (st : List (Frame Held)) (st' : List (Frame ℕ)) (e : Resumption Held Name Mark) (e' : Resumption ℕ ℕ NoMark) → Stacks b st st' → EffectR u b e e' → TurnsR b (turn_of tagged c at rest st e) (turn_of words c at rest st' e')
   statement_alike b at rest st st' Sticks e' k h = tt
   statement_alike b at rest st st' (Does o told) Sticks k h = absurd h
   statement_alike b at rest st st' (Does o told) (Does p said) k h = (h.0, λ d g v w r. acted_alike d at rest st st' (told v) (said w) (stacks_grow b d g st st' k) (h.1 d g v w r))

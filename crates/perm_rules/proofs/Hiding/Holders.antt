@@ -167,23 +167,23 @@ module _ (stmts : List Stmt) (placed : (j : ℕ) (s : Stmt) → slice_get stmts 
           pick (inr q) = let deep : i < o.inside.at = later o.inside.at (omega (arith, before)) q in omega (arith, before)
 
   -- a statement stands in the block of some statement, if it is within one
-  pub record Held (i : ℕ) : Type 0 where
+  pub record HolderOf (i : ℕ) : Type 0 where
     pub place : ℕ
     pub stmt : Stmt
     pub here : slice_get stmts place ≡ Some stmt
     pub inside : those (inner_places stmt) i ≡ true
 
-  held : (n j i : ℕ) → j < n → those (get_or within j []) i ≡ true → Held i
+  held : (n j i : ℕ) → j < n → those (get_or within j []) i ≡ true → HolderOf i
   held zero j i less e = absurd (omega arith)
   held (suc n) j i less e = go (opened j i e) (λ k small q. held n k i small q)
     where
-      go : Opened j i → ((k : ℕ) → k < n → those (get_or within k []) i ≡ true → Held i) → Held i
+      go : Opened j i → ((k : ℕ) → k < n → those (get_or within k []) i ≡ true → HolderOf i) → HolderOf i
       go o later = pick o.inside.either
         where
           before : o.inside.at < j
           before = listed-below j (inner_places o.stmt) o.inside.at (placed j o.stmt o.here) o.inside.listed
 
-          pick : (i ≡ o.inside.at) ⊎ (those (get_or within o.inside.at []) i ≡ true) → Held i
+          pick : (i ≡ o.inside.at) ⊎ (those (get_or within o.inside.at []) i ≡ true) → HolderOf i
           pick (inl q) = record { place = j; stmt = o.stmt; here = o.here; inside = subst (λ x. those (inner_places o.stmt) x ≡ true) (sym q) o.inside.listed }
           pick (inr q) = later o.inside.at (omega (arith, before)) q
 
@@ -255,5 +255,5 @@ module _ (stmts : List Stmt) (placed : (j : ℕ) (s : Stmt) → slice_get stmts 
   pub hidden-in-body : (vars : List VarInfo) (i : ℕ) → ((j : ℕ) (s : Stmt) → slice_get stmts j ≡ Some s → those (inner_places s) i ≡ true → ⊥) → hidden_by vars i within stmts ≡ []
   hidden-in-body vars i out = none-hidden vars within stmts i (λ n. not-true (those (get_or within n []) i) (λ e. no (held (suc n) n i (omega arith) e)))
     where
-      no : Held i → ⊥
+      no : HolderOf i → ⊥
       no h = out h.place h.stmt h.here h.inside

@@ -11,7 +11,7 @@ use Rattle.perm_tree.specs.Code.{Tie, Shares, Raises, Lends, Argument, Expressio
 use Rattle.perm_tree.specs.Vars.{Vars}
 use Rattle.perm_rules.specs.declared.ParMode.{ParMode}
 use Rattle.perm_rules.specs.declared.ParMode.TheVariants.{Symmetric, LeftAlone, RightAlone}
-use Rattle.perm_rules.specs.Parts.{Context, type_of, field_in, has_isolated}
+use Rattle.perm_rules.specs.Parts.{Context, type_of, type_of_field, has_isolated}
 use Rattle.perm_meaning.specs.Values.{Number, Truth, Null, Reference}
 use Rattle.perm_meaning.specs.Names.{Name}
 use Rattle.perm_meaning.specs.Objects.{Object}
@@ -193,7 +193,7 @@ module _ (at : Way → Way) where
       instruction-local : (i : Instruction) → IsLocalChange at heap.objects (instruction_change u labels c (at Here) z b i)
       instruction-local (Declare x) = no-local at heap.objects
       instruction-local (Assign x a) = record { moves = consumed-local c (calls b.stack) a (goal_at c (at Here) z b.stack x) (into-local x); new = tt }
-      instruction-local (LoadField x y f) = go (is_immutable u labels (type_of c y)) (has_isolated (field_in c.classes (type_of c y) f))
+      instruction-local (LoadField x y f) = go (is_immutable u labels (type_of c y)) (has_isolated (type_of_field c.classes (type_of c y) f))
         where
           go : (s t : Bool) → IsLocalChange at heap.objects (cond s (cond t (moving (Moves (field_region u labels (slice_get b.own.vars y) f) Frozen ∷ [])) no_change) no_change)
           go true true = record { moves = field-local y f Frozen refl; new = tt }
@@ -205,8 +205,8 @@ module _ (at : Way → Way) where
       instruction-local (NewObject x k) = record { moves = nothing; new = leaf.new }
       instruction-local (NewArray x n) = record { moves = nothing; new = leaf.new }
       instruction-local (StoreField y f a) =
-          let to = goal_of (field_in c.classes (type_of c y) f) (field_region u labels (slice_get b.own.vars y) f) (region_of u labels (slice_get b.own.vars y)) in
-          record { moves = consumed-local c (calls b.stack) a to (goal-there (field_in c.classes (type_of c y) f) (field_region u labels (slice_get b.own.vars y) f) (region_of u labels (slice_get b.own.vars y)) (field-is y f) (region-is y)); new = tt }
+          let to = goal_of (type_of_field c.classes (type_of c y) f) (field_region u labels (slice_get b.own.vars y) f) (region_of u labels (slice_get b.own.vars y)) in
+          record { moves = consumed-local c (calls b.stack) a to (goal-there (type_of_field c.classes (type_of c y) f) (field_region u labels (slice_get b.own.vars y) f) (region_of u labels (slice_get b.own.vars y)) (field-is y f) (region-is y)); new = tt }
       instruction-local (StoreItem y i e) = no-local at heap.objects
       instruction-local (Invoke into tie consumed y m args) = record { moves = call-local c z b.stack tie consumed y args (slice_get u.routines m); new = tt }
       instruction-local (Print e) = no-local at heap.objects

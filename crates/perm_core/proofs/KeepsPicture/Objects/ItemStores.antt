@@ -9,10 +9,11 @@ use Rattle.perm_tree.specs.declared.ast.Ty.{Ty}
 use Rattle.perm_tree.specs.declared.ast.Ty.TheVariants.{Long, Bool as Boolean, Ref}
 use Rattle.perm_tree.specs.declared.errors.TypeKind.TheVariants.{WrongKind}
 use Rattle.perm_tree.specs.Code.{Term, StoreItem, Code, Do, UnitCode}
+use Rattle.perm_tree.specs.Lookup.{is_array}
 use Rattle.perm_tree.specs.Mentions.{any_in_term}
 use Rattle.perm_tree.specs.Shapes.{same_shape}
 use Rattle.perm_tree.specs.Vars.{Vars}
-use Rattle.perm_rules.specs.Parts.{Context, Simple, type_of, if_known, is_long_array}
+use Rattle.perm_rules.specs.Parts.{Context, Simple, type_of, if_known}
 use Rattle.perm_rules.specs.Refusals.{IsAllowed}
 use Rattle.perm_rules.specs.Shapes.{isnt_array}
 use Rattle.perm_rules.specs.Sorts.{isnt_long}
@@ -76,9 +77,9 @@ module _ (u : UnitCode) (labels : Labels) (heap : Heap) (at : Way → Way) (z : 
       wrong = (or_parts (isnt_array part y) (isnt_long part i || isnt_long part e) (applies-none part (Simple (StoreItem y i e)) (valued b.own.vars) allowed WrongKind)).0
 
       of_type : (t : Ty) × (type_of c y ≡ Some t) → has_shape (h r) Array len ≡ true
-      of_type (Long, q) = absurd (let w = sym (ap (λ o. if_known o (λ t. not (is_long_array t))) q) ∙ wrong in let no : ⊥ = cc w in no)
-      of_type (Boolean, q) = absurd (let w = sym (ap (λ o. if_known o (λ t. not (is_long_array t))) q) ∙ wrong in let no : ⊥ = cc w in no)
-      of_type (Ref p (Class k), q) = absurd (let w = sym (ap (λ o. if_known o (λ t. not (is_long_array t))) q) ∙ wrong in let no : ⊥ = cc w in no)
+      of_type (Long, q) = absurd (let w = sym (ap (λ o. if_known o (λ t. not (is_array (Some t)))) q) ∙ wrong in let no : ⊥ = cc w in no)
+      of_type (Boolean, q) = absurd (let w = sym (ap (λ o. if_known o (λ t. not (is_array (Some t)))) q) ∙ wrong in let no : ⊥ = cc w in no)
+      of_type (Ref p (Class k), q) = absurd (let w = sym (ap (λ o. if_known o (λ t. not (is_array (Some t)))) q) ∙ wrong in let no : ⊥ = cc w in no)
       of_type (Ref p Array, q) = (and_parts (has_shape (h r) Array len) (var_may_lead p (OfVariable (at Here) (calls st) y) (top_zone (at Here) z st) (labels r)) (fit.each y (Ref p Array) (Reference r len) q here)).0
 
   changed : (o : Object Name) → h r ≡ Some o → values_fit u labels more r o.shape o.values ≡ true → values_fit u labels more r o.shape (slice_set o.values f (Number n)) ≡ true

@@ -15,7 +15,7 @@ use Rattle.perm_tree.specs.CodeOf.{is_tied}
 use Rattle.perm_tree.specs.Mentions.{any_in_term}
 use Rattle.perm_tree.specs.Vars.{Vars}
 use Rattle.perm_perm.specs.Adaptation.{adapted}
-use Rattle.perm_rules.specs.Parts.{Context, Simple, type_of, field_in, field_among, field_type, if_known, if_both_known, is_object, is_isolated, has_isolated}
+use Rattle.perm_rules.specs.Parts.{Context, Simple, type_of, type_of_field, field_among, field_type, if_known, if_both_known, is_object, is_isolated, has_isolated}
 use Rattle.perm_rules.specs.Permissions.{read_needs, read_barred, weak, seen_through}
 use Rattle.perm_rules.specs.Shapes.{lacks_field, isnt_object, isnt_array, shapes_differ}
 use Rattle.perm_rules.specs.Sorts.{differ, isnt_long}
@@ -150,11 +150,11 @@ load-types c x y f G allowed = record {
     taker : (s : Ty) × (type_of c x ≡ Some s)
     taker = there (type_of c x) (or_parts (is_none (type_of c x)) (is_none (type_of c y)) named.0).0
 
-    field : (s : Ty) × (field_in c.classes (Some (Ref t.0 (Class t.1))) f ≡ Some s)
-    field = there (field_in c.classes (Some (Ref t.0 (Class t.1))) f) (sym (ap (λ o. if_known o is_object && is_none (field_in c.classes o f)) t.2) ∙ named.1)
+    field : (s : Ty) × (type_of_field c.classes (Some (Ref t.0 (Class t.1))) f ≡ Some s)
+    field = there (type_of_field c.classes (Some (Ref t.0 (Class t.1))) f) (sym (ap (λ o. if_known o is_object && is_none (type_of_field c.classes o f)) t.2) ∙ named.1)
 
     held : field_type c y f ≡ Some field.0
-    held = ap (λ o. field_in c.classes o f) t.2 ∙ field.1
+    held = ap (λ o. type_of_field c.classes o f) t.2 ∙ field.1
 
     both-known : (test : Ty → Ty → Bool) → if_both_known (type_of c y) (field_type c y f) test ≡ false → test (Ref t.0 (Class t.1)) field.0 ≡ false
     both-known test e = sym (ap (λ o. if_both_known o (field_type c y f) test) t.2 ∙ ap (λ o. if_both_known (Some (Ref t.0 (Class t.1))) o test) held) ∙ e
@@ -231,15 +231,15 @@ module _ (u : UnitCode) (labels : Labels) (h : Objects Name) (at : Way → Way) 
   abbrev ρ : Region → Region
   ρ = froze i j (OfField r f)
 
-  held : field_in c.classes (type_of c y) f ≡ Some ts.field
-  held = ap (λ o. field_in c.classes o f) ts.through ∙ ts.reads
+  held : type_of_field c.classes (type_of c y) f ≡ Some ts.field
+  held = ap (λ o. type_of_field c.classes o f) ts.through ∙ ts.reads
 
   loaded-so : labels-loaded ≡ (λ n. ρ (labels n))
   loaded-so e n = same e
     where
       same : labels-loaded n ≡ ρ (labels n)
       same =
-          ap (λ (o : Option Held). relabelled (cond (is_immutable u labels (type_of c y)) (cond (has_isolated (field_in c.classes (type_of c y) f)) (moving (Moves (field_region u labels o f) Frozen ∷ [])) no_change) no_change) labels n) here
+          ap (λ (o : Option Held). relabelled (cond (is_immutable u labels (type_of c y)) (cond (has_isolated (type_of_field c.classes (type_of c y) f)) (moving (Moves (field_region u labels o f) Frozen ∷ [])) no_change) no_change) labels n) here
           ∙ ap (λ (o : Option Ty). relabelled (cond (is_immutable u labels (type_of c y)) (cond (has_isolated o) (moving (Moves (OfField r f) Frozen ∷ [])) no_change) no_change) labels n) held
           ∙ ap (λ (o : Option Ty). relabelled (cond (is_immutable u labels o) (cond j (moving (Moves (OfField r f) Frozen ∷ [])) no_change) no_change) labels n) ts.through
           ∙ froze-so i j (OfField r f) labels n

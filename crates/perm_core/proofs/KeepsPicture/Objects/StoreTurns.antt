@@ -16,7 +16,7 @@ use Rattle.perm_tree.specs.Mentions.{any_in_argument, mentions}
 use Rattle.perm_tree.specs.Shapes.{same_shape}
 use Rattle.perm_tree.specs.Vars.{Vars, those}
 use Rattle.perm_rules.specs.Liveness.{dead, after_argument}
-use Rattle.perm_rules.specs.Parts.{Context, Simple, any_in_part, type_of, field_in, field_among, if_known, is_object, if_both_known}
+use Rattle.perm_rules.specs.Parts.{Context, Simple, any_in_part, type_of, type_of_field, field_among, if_known, is_object, if_both_known}
 use Rattle.perm_rules.specs.Permissions.{argument_weak, may_store}
 use Rattle.perm_rules.specs.Refusals.{IsAllowed}
 use Rattle.perm_rules.specs.Shapes.{argument_misfits, isnt_object, lacks_field}
@@ -58,7 +58,7 @@ pub record StoreTypes (classes : List (List Ty)) (receiver : Option Ty) (f : ℕ
   pub k : ℕ
   pub t : Ty
   pub is : receiver ≡ Some (Ref p (Class k))
-  pub field : field_in classes (Some (Ref p (Class k))) f ≡ Some t
+  pub field : type_of_field classes (Some (Ref p (Class k))) f ≡ Some t
   pub may : may_store (Ref p (Class k)) t ≡ true
 
 -- so it is of an allowed store
@@ -69,12 +69,12 @@ store-types c y f a G allowed = of_type (get-some c.vars y (part-known c (Simple
     lacks = (or_parts (any_in_part (λ x. is_none (type_of c x)) (Simple (StoreField y f a))) (lacks_field c y f) (applies-none c (Simple (StoreField y f a)) G allowed UnknownName)).1
 
     wrong : isnt_object c y ≡ false
-    wrong = (or_parts (isnt_object c y) (argument_misfits c a (field_in c.classes (type_of c y) f)) (applies-none c (Simple (StoreField y f a)) G allowed WrongKind)).0
+    wrong = (or_parts (isnt_object c y) (argument_misfits c a (type_of_field c.classes (type_of c y) f)) (applies-none c (Simple (StoreField y f a)) G allowed WrongKind)).0
 
-    barred : if_both_known (type_of c y) (field_in c.classes (type_of c y) f) (λ t u. not (may_store t u)) ≡ false
+    barred : if_both_known (type_of c y) (type_of_field c.classes (type_of c y) f) (λ t u. not (may_store t u)) ≡ false
     barred = applies-none c (Simple (StoreField y f a)) G allowed NotAllowedThrough
 
-    of_field : (p : Perm) (k : ℕ) → type_of c y ≡ Some (Ref p (Class k)) → (o : Option Ty) → field_in c.classes (Some (Ref p (Class k))) f ≡ o → is_none o ≡ false → if_both_known (Some (Ref p (Class k))) o (λ t u. not (may_store t u)) ≡ false → StoreTypes c.classes (type_of c y) f
+    of_field : (p : Perm) (k : ℕ) → type_of c y ≡ Some (Ref p (Class k)) → (o : Option Ty) → type_of_field c.classes (Some (Ref p (Class k))) f ≡ o → is_none o ≡ false → if_both_known (Some (Ref p (Class k))) o (λ t u. not (may_store t u)) ≡ false → StoreTypes c.classes (type_of c y) f
     of_field p k is None here e m = absurd (let no : ⊥ = cc e in no)
     of_field p k is (Some t) here e m = record { p = p; k = k; t = t; is = is; field = here; may = not-false (may_store (Ref p (Class k)) t) m }
 
@@ -83,9 +83,9 @@ store-types c y f a G allowed = of_type (get-some c.vars y (part-known c (Simple
     of_type (Boolean, is) = absurd (let q = sym (ap (λ o. if_known o (λ t. not (is_object t))) is) ∙ wrong in let no : ⊥ = cc q in no)
     of_type (Ref p Array, is) = absurd (let q = sym (ap (λ o. if_known o (λ t. not (is_object t))) is) ∙ wrong in let no : ⊥ = cc q in no)
     of_type (Ref p (Class k), is) =
-        of_field p k is (field_in c.classes (Some (Ref p (Class k))) f) refl
-        (sym (ap (λ o. if_known o is_object && is_none (field_in c.classes o f)) is) ∙ lacks)
-        (sym (ap (λ o. if_both_known o (field_in c.classes o f) (λ t u. not (may_store t u))) is) ∙ barred)
+        of_field p k is (type_of_field c.classes (Some (Ref p (Class k))) f) refl
+        (sym (ap (λ o. if_known o is_object && is_none (type_of_field c.classes o f)) is) ∙ lacks)
+        (sym (ap (λ o. if_both_known o (type_of_field c.classes o f) (λ t u. not (may_store t u))) is) ∙ barred)
 
 -- where a value goes that is stored through a variable in zone z: the region of the receiver matters only where it is the zone's own
 goal-home : (p : Perm) (k : ℕ) (t : Ty) (from e home : Region) (z : Zone) → may_store (Ref p (Class k)) t ≡ true → var_may_lead p from z home ≡ true → goal_of (Some t) e home ≡ goal_of (Some t) e (OwnOf z)
@@ -126,7 +126,7 @@ module _ (u : UnitCode) (labels : Labels) (heap : Heap) (at : Way → Way) (z : 
 
   -- the labels after the store
   abbrev pub placed : Labels
-  placed n = moved (consumed_moves c (at Here) (calls st) a (goal_of (field_in c.classes (type_of c y) f) (field_region u labels (slice_get b.own.vars y) f) (region_of u labels (slice_get b.own.vars y)))) (labels n)
+  placed n = moved (consumed_moves c (at Here) (calls st) a (goal_of (type_of_field c.classes (type_of c y) f) (field_region u labels (slice_get b.own.vars y) f) (region_of u labels (slice_get b.own.vars y)))) (labels n)
 
   fit : AllFit u labels h top (at Here) k c.vars b.own.vars
   fit = to-all u labels h top (at Here) k c.vars b.own.vars vars
@@ -148,12 +148,12 @@ module _ (u : UnitCode) (labels : Labels) (heap : Heap) (at : Way → Way) (z : 
   receiver = and_parts (has_shape (h r) (Class ts.k) len) (var_may_lead ts.p (OfVariable (at Here) k y) top (labels r)) (fit.each y (Ref ts.p (Class ts.k)) (Reference r len) ts.is was.0)
 
   abbrev to : Region
-  to = goal_of (field_in c.classes (type_of c y) f) (field_region u labels (slice_get b.own.vars y) f) (region_of u labels (slice_get b.own.vars y))
+  to = goal_of (type_of_field c.classes (type_of c y) f) (field_region u labels (slice_get b.own.vars y) f) (region_of u labels (slice_get b.own.vars y))
 
   home : to ≡ goal_of (Some ts.t) (OfField r f) (OwnOf top)
   home =
-      ap (λ o. goal_of (field_in c.classes o f) (field_region u labels (slice_get b.own.vars y) f) (region_of u labels (slice_get b.own.vars y))) ts.is
-      ∙ (ap (λ o. goal_of (field_in c.classes (Some (Ref ts.p (Class ts.k))) f) (field_region u labels o f) (region_of u labels o)) was.0
+      ap (λ o. goal_of (type_of_field c.classes o f) (field_region u labels (slice_get b.own.vars y) f) (region_of u labels (slice_get b.own.vars y))) ts.is
+      ∙ (ap (λ o. goal_of (type_of_field c.classes (Some (Ref ts.p (Class ts.k))) f) (field_region u labels o f) (region_of u labels o)) was.0
       ∙ (ap (λ o. goal_of o (OfField r f) (labels r)) ts.field ∙ goal-home ts.p ts.k ts.t (OfVariable (at Here) k y) (OfField r f) (labels r) top ts.may receiver.1))
 
   to-there : is_absent to ≡ false
@@ -167,13 +167,13 @@ module _ (u : UnitCode) (labels : Labels) (heap : Heap) (at : Way → Way) (z : 
   comes =
       argument-comes u labels h c (at Here) k top b.own.vars fit ts.t (OfField r f) top a v ws one
       (or_parts (any_in_argument (dead (valued b.own.vars)) a) (dead (after_argument a (valued b.own.vars)) y) (applies-none part (Simple (StoreField y f a)) (valued b.own.vars) allowed Gone)).0
-      (sym (ap (λ o. argument_misfits part a o) type) ∙ (or_parts (isnt_object part y) (argument_misfits part a (field_in c.classes (type_of c y) f)) (applies-none part (Simple (StoreField y f a)) (valued b.own.vars) allowed WrongKind)).1)
+      (sym (ap (λ o. argument_misfits part a o) type) ∙ (or_parts (isnt_object part y) (argument_misfits part a (type_of_field c.classes (type_of c y) f)) (applies-none part (Simple (StoreField y f a)) (valued b.own.vars) allowed WrongKind)).1)
       (sym (ap (λ o. argument_weak part a o) type) ∙ applies-none part (Simple (StoreField y f a)) (valued b.own.vars) allowed PermissionTooWeak)
       (applies-none part (Simple (StoreField y f a)) (valued b.own.vars) allowed NeedsConsume)
       (λ x p s m q. (λ e. refl, λ e. refl))
     where
-      type : field_in c.classes (type_of c y) f ≡ Some ts.t
-      type = ap (λ o. field_in c.classes o f) ts.is ∙ ts.field
+      type : type_of_field c.classes (type_of c y) f ≡ Some ts.t
+      type = ap (λ o. type_of_field c.classes o f) ts.is ∙ ts.field
 
   -- the objects after the store
   abbrev more : Objects Name

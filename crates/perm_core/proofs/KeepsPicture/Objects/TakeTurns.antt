@@ -15,7 +15,7 @@ use Rattle.perm_tree.specs.declared.errors.TypeKind.TheVariants.{UnknownName, Wr
 use Rattle.perm_tree.specs.Code.{TakeField, Code, Do, UnitCode}
 use Rattle.perm_tree.specs.Shapes.{same_shape}
 use Rattle.perm_tree.specs.Vars.{Vars}
-use Rattle.perm_rules.specs.Parts.{Context, Simple, type_of, field_in, field_among, field_type, if_known, if_both_known, is_object}
+use Rattle.perm_rules.specs.Parts.{Context, Simple, type_of, type_of_field, field_among, field_type, if_known, if_both_known, is_object}
 use Rattle.perm_rules.specs.Permissions.{may_change}
 use Rattle.perm_rules.specs.Shapes.{lacks_field, isnt_object, isnt_isolated, shapes_differ}
 use Rattle.perm_rules.specs.Sorts.{differ}
@@ -81,11 +81,11 @@ take-types c x y f G allowed = types field.0 taker.0 field.1 taker.1 isolated ki
     taker : (a : Ty) × (type_of c x ≡ Some a)
     taker = there (type_of c x) (or_parts (is_none (type_of c x)) (is_none (type_of c y)) named.0).0
 
-    field : (a : Ty) × (field_in c.classes (Some (Ref t.0 (Class t.1))) f ≡ Some a)
-    field = there (field_in c.classes (Some (Ref t.0 (Class t.1))) f) (sym (ap (λ o. if_known o is_object && is_none (field_in c.classes o f)) t.2) ∙ named.1)
+    field : (a : Ty) × (type_of_field c.classes (Some (Ref t.0 (Class t.1))) f ≡ Some a)
+    field = there (type_of_field c.classes (Some (Ref t.0 (Class t.1))) f) (sym (ap (λ o. if_known o is_object && is_none (type_of_field c.classes o f)) t.2) ∙ named.1)
 
     held : field_type c y f ≡ Some field.0
-    held = ap (λ o. field_in c.classes o f) t.2 ∙ field.1
+    held = ap (λ o. type_of_field c.classes o f) t.2 ∙ field.1
 
     isolated : isnt_isolated (Some field.0) ≡ false
     isolated = sym (ap isnt_isolated held) ∙ wrongs.0
@@ -93,7 +93,7 @@ take-types c x y f G allowed = types field.0 taker.0 field.1 taker.1 isolated ki
     kind : differ field.0 taker.0 ≡ false
     kind = sym (ap (λ o. if_both_known (field_type c y f) o differ) taker.1 ∙ ap (λ o. if_both_known o (Some taker.0) differ) held) ∙ wrongs.1
 
-    types : (a b : Ty) → field_in c.classes (Some (Ref t.0 (Class t.1))) f ≡ Some a → type_of c x ≡ Some b → isnt_isolated (Some a) ≡ false → differ a b ≡ false → TakeTypes c x y f
+    types : (a b : Ty) → type_of_field c.classes (Some (Ref t.0 (Class t.1))) f ≡ Some a → type_of c x ≡ Some b → isnt_isolated (Some a) ≡ false → differ a b ≡ false → TakeTypes c x y f
     types (Ref Isolated l) (Ref q s) i j iso kind = record {
       p = t.0;
       k = t.1;

@@ -25,7 +25,7 @@ use Rattle.perm_meaning.proofs.SameName.{together, eq_true, eq_itself}
 use Rattle.perm_tree.specs.Code.{Tie, Shares, Raises, Lends}
 use Rattle.perm_core.specs.Regions.{Zone, Base, Under, Region, OwnOf, OfVariable, OfField, Labels, same_way, same_zone, same_region, may_read, var_may_lead, calls, zones, top_zone, left_zone, right_zone}
 use Rattle.perm_core.specs.Picture.{value_fits, variables_fit, stack_fits, object_fits}
-use Rattle.perm_core.specs.NextPicture.{Renamings, renamed, moved, zone_joined, numbers, isolated_among, handed, zone_moves}
+use Rattle.perm_core.specs.NextPicture.{Renamings, renamed, moved, zone_joined, members_from, isolated_among, handed, zone_moves}
 use Rattle.perm_core.proofs.Commute.LeadsTo.{zone-true}
 use Rattle.perm_core.proofs.KeepsPicture.Labels.Relabellings.{Good, good-then, good-all, AllGood, good-moves, good-joins, MayJoin, of_variable, way-same, zone-same, FieldsStay, object-carry, value-carry, var-carry, tied-carry}
 use Rattle.perm_core.proofs.KeepsPicture.Labels.CarriedValues.{AllFit, to-all, from-all, one-carry, LentStays, StackStays, stack-carry}
@@ -65,25 +65,25 @@ module _ (u : UnitCode) (labels : Labels) where
   handed-good w k v j (x ∷ xs) = (good-moves (OfVariable w k x) (OfVariable v j x) (of_variable w k x) refl, handed-good w k v j xs)
 
   -- the members of a set below n are listed
-  numbers-has : (n k : ℕ) (G : Vars) (i : ℕ) → i < n → G (k + i) ≡ true → list_any (nat_eq (k + i)) (numbers u labels n k G) ≡ true
+  numbers-has : (n k : ℕ) (G : Vars) (i : ℕ) → i < n → G (k + i) ≡ true → list_any (nat_eq (k + i)) (members_from u labels n k G) ≡ true
   numbers-has zero k G i less e = absurd (omega (arith, less))
   numbers-has (suc n) k G zero less e = go (G k) refl
     where
       same : k + 0 ≡ k
       same = omega arith
 
-      go : (t : Bool) → G k ≡ t → list_any (nat_eq (k + 0)) (cond (G k) (k ∷ numbers u labels n (suc k) G) (numbers u labels n (suc k) G)) ≡ true
+      go : (t : Bool) → G k ≡ t → list_any (nat_eq (k + 0)) (cond (G k) (k ∷ members_from u labels n (suc k) G) (members_from u labels n (suc k) G)) ≡ true
       go true q =
-          ap (λ t. list_any (nat_eq (k + 0)) (cond t (k ∷ numbers u labels n (suc k) G) (numbers u labels n (suc k) G))) q
-          ∙ or_left (nat_eq (k + 0) k) (list_any (nat_eq (k + 0)) (numbers u labels n (suc k) G)) (ap (λ x. nat_eq x k) same ∙ eq_itself k)
+          ap (λ t. list_any (nat_eq (k + 0)) (cond t (k ∷ members_from u labels n (suc k) G) (members_from u labels n (suc k) G))) q
+          ∙ or_left (nat_eq (k + 0) k) (list_any (nat_eq (k + 0)) (members_from u labels n (suc k) G)) (ap (λ x. nat_eq x k) same ∙ eq_itself k)
       go false q = absurd (let f : false ≡ true = sym q ∙ ap G (sym same) ∙ e in cc)
   numbers-has (suc n) k G (suc i) less e =
       let same : k + suc i ≡ suc k + i = omega arith in
-      let later : list_any (nat_eq (suc k + i)) (numbers u labels n (suc k) G) ≡ true = numbers-has n (suc k) G i (omega (arith, less)) (ap G (sym same) ∙ e) in
-      subst (λ x. list_any (nat_eq x) (numbers u labels (suc n) k G) ≡ true) (sym same) (go (G k) later)
+      let later : list_any (nat_eq (suc k + i)) (members_from u labels n (suc k) G) ≡ true = numbers-has n (suc k) G i (omega (arith, less)) (ap G (sym same) ∙ e) in
+      subst (λ x. list_any (nat_eq x) (members_from u labels (suc n) k G) ≡ true) (sym same) (go (G k) later)
     where
-      go : (t : Bool) → list_any (nat_eq (suc k + i)) (numbers u labels n (suc k) G) ≡ true → list_any (nat_eq (suc k + i)) (cond t (k ∷ numbers u labels n (suc k) G) (numbers u labels n (suc k) G)) ≡ true
-      go true l = or_right (nat_eq (suc k + i) k) (list_any (nat_eq (suc k + i)) (numbers u labels n (suc k) G)) l
+      go : (t : Bool) → list_any (nat_eq (suc k + i)) (members_from u labels n (suc k) G) ≡ true → list_any (nat_eq (suc k + i)) (cond t (k ∷ members_from u labels n (suc k) G) (members_from u labels n (suc k) G)) ≡ true
+      go true l = or_right (nat_eq (suc k + i) k) (list_any (nat_eq (suc k + i)) (members_from u labels n (suc k) G)) l
       go false l = l
 
   pub among-has : (c : Context) (G : Vars) (x : ℕ) (s : Shape) → type_of c x ≡ Some (Ref Isolated s) → G x ≡ true → list_any (nat_eq x) (isolated_among u labels c G) ≡ true
@@ -106,15 +106,15 @@ module _ (u : UnitCode) (labels : Labels) where
           ap (λ t. moved (handed u labels w k v j xs) (cond t (OfVariable v j y) (OfVariable w k x))) miss ∙ rec q
 
   -- what is listed is in the set
-  numbers-only : (n k : ℕ) (G : Vars) (x : ℕ) → list_any (nat_eq x) (numbers u labels n k G) ≡ true → G x ≡ true
+  numbers-only : (n k : ℕ) (G : Vars) (x : ℕ) → list_any (nat_eq x) (members_from u labels n k G) ≡ true → G x ≡ true
   numbers-only zero k G x e = absurd (let f : false ≡ true = e in cc)
   numbers-only (suc n) k G x e = go (numbers-only n (suc k) G x) (G k) refl e
     where
-      go : (list_any (nat_eq x) (numbers u labels n (suc k) G) ≡ true → G x ≡ true) → (t : Bool) → G k ≡ t → list_any (nat_eq x) (cond t (k ∷ numbers u labels n (suc k) G) (numbers u labels n (suc k) G)) ≡ true → G x ≡ true
+      go : (list_any (nat_eq x) (members_from u labels n (suc k) G) ≡ true → G x ≡ true) → (t : Bool) → G k ≡ t → list_any (nat_eq x) (cond t (k ∷ members_from u labels n (suc k) G) (members_from u labels n (suc k) G)) ≡ true → G x ≡ true
       go rec false q f = rec f
-      go rec true q f = first (or_cases (nat_eq x k) (list_any (nat_eq x) (numbers u labels n (suc k) G)) f)
+      go rec true q f = first (or_cases (nat_eq x k) (list_any (nat_eq x) (members_from u labels n (suc k) G)) f)
         where
-          first : (nat_eq x k ≡ true) ⊎ (list_any (nat_eq x) (numbers u labels n (suc k) G) ≡ true) → G x ≡ true
+          first : (nat_eq x k ≡ true) ⊎ (list_any (nat_eq x) (members_from u labels n (suc k) G) ≡ true) → G x ≡ true
           first (inl d) = ap G (eq_true x k d) ∙ q
           first (inr d) = rec d
 

@@ -14,7 +14,7 @@ use Rattle.perm_meaning.specs.Values as values
 use Rattle.perm_meaning.specs.Values.{Value, Number, Truth, Null, Reference, Eval, Gives, Traps, Mistyped, Referred, ToNull, ToObject, NoReference}
 use Rattle.perm_meaning.specs.Names.{Name, Mark, after_object}
 use Rattle.perm_meaning.specs.Expressions.{tagged, assign, assign_into, look_up, clear, clear_all, eval, value_of}
-use Rattle.perm_meaning.specs.Effects.{Tick, Load, Store, Take, Make, Act, GoesOn, Calls, Halts, Effect, Does, Sticks, choose, depth_limit, ticks, halts, with_vars, into_var, makes, first_vars, on_value, if_number, on_number, on_referred, on_object, on_argument, on_arguments, on_index, on_length, on_class, on_call, on_routine, below_limit, effect}
+use Rattle.perm_meaning.specs.Effects.{Tick, Load, Store, Take, Make, Act, GoesOn, Calls, Halts, Resumption, Does, Sticks, choose, depth_limit, ticks, halts, with_vars, into_var, makes, first_vars, on_value, if_number, on_number, on_referred, on_object, on_argument, on_arguments, on_index, on_length, on_class, on_call, on_routine, below_limit, effect}
 use Rattle.perm_meaning.specs.Custody.{Moves, from_either, only, while_called, lent_by}
 use Rattle.perm_meaning.specs.Machine.{Frame, OpenBlock, OpenRecover, OpenCall, Failure, Trapped, Blocks, Did, On, Splits, Ends, Dies, Turn, Takes, NoTurn}
 use Rattle.perm_meaning.specs.NamedHeap.{Held, Op, Own, marks}
@@ -82,7 +82,7 @@ module _ (u : UnitCode) (l : Own) where
         → ActTo w (Invoke into tie consumed y m args) Tick (Calls (record { routine = m; code = r.code; first = first_vars tagged r this found; tie = tie; receiver = this; y = y; into = into }) (with_vars tagged l vs))
 
   -- so it is of an effect, whatever is told
-  abbrev Tells : Instruction → Effect Held Name Mark → Type 0
+  abbrev Tells : Instruction → Resumption Held Name Mark → Type 0
   Tells i (Does o told) = (w : Held) → ActTo w i o (told w)
   Tells i Sticks = Unit {0}
 
@@ -92,33 +92,33 @@ module _ (u : UnitCode) (l : Own) where
   go-tells : (i : Instruction) (o : Op) (told : Held → List Held) → ((w : Held) → Acts w i o (told w)) → Tells i (Does o (λ w. GoesOn (with_vars tagged l (told w))))
   go-tells i o told h w = going i o (told w) (with_vars tagged l (told w)) (h w) (record { vars = refl; routine = refl; mark = refl })
 
-  value-tells : (i : Instruction) (e : Eval Held) (go : Held → Effect Held Name Mark) → ((v : Held) → e ≡ Gives v → Tells i (go v)) → Tells i (on_value tagged e go)
+  value-tells : (i : Instruction) (e : Eval Held) (go : Held → Resumption Held Name Mark) → ((v : Held) → e ≡ Gives v → Tells i (go v)) → Tells i (on_value tagged e go)
   value-tells i (Gives v) go h = h v refl
   value-tells i (Traps t) go h = trap-tells i t
   value-tells i Mistyped go h = tt
 
-  number-if : (i : Instruction) (n : Option ℤ) (go : ℤ → Effect Held Name Mark) → ((z : ℤ) → n ≡ Some z → Tells i (go z)) → Tells i (if_number tagged n go)
+  number-if : (i : Instruction) (n : Option ℤ) (go : ℤ → Resumption Held Name Mark) → ((z : ℤ) → n ≡ Some z → Tells i (go z)) → Tells i (if_number tagged n go)
   number-if i None go h = tt
   number-if i (Some n) go h = h n refl
 
-  number-tells : (i : Instruction) (e : Eval Held) (go : ℤ → Effect Held Name Mark) → ((n : ℤ) → Tells i (go n)) → Tells i (on_number tagged e go)
+  number-tells : (i : Instruction) (e : Eval Held) (go : ℤ → Resumption Held Name Mark) → ((n : ℤ) → Tells i (go n)) → Tells i (on_number tagged e go)
   number-tells i e go h = value-tells i e (λ v. if_number tagged (tagged.as_number v) go) (λ v q. number-if i (tagged.as_number v) go (λ z p. h z))
 
-  referred-tells : (i : Instruction) (x : Referred Name) (go : Name → ℕ → Effect Held Name Mark) → ((r : Name) (n : ℕ) → x ≡ ToObject r n → Tells i (go r n)) → Tells i (on_referred tagged x go)
+  referred-tells : (i : Instruction) (x : Referred Name) (go : Name → ℕ → Resumption Held Name Mark) → ((r : Name) (n : ℕ) → x ≡ ToObject r n → Tells i (go r n)) → Tells i (on_referred tagged x go)
   referred-tells i (ToObject r n) go h = h r n refl
   referred-tells i ToNull go h = λ w. trapping i _
   referred-tells i NoReference go h = tt
 
-  object-tells : (i : Instruction) (vs : List Held) (y : ℕ) (go : Name → ℕ → Effect Held Name Mark) → ((r : Name) (n : ℕ) → slice_get vs y ≡ Some (Some (Reference r n)) → Tells i (go r n)) → Tells i (on_object tagged vs y go)
+  object-tells : (i : Instruction) (vs : List Held) (y : ℕ) (go : Name → ℕ → Resumption Held Name Mark) → ((r : Name) (n : ℕ) → slice_get vs y ≡ Some (Some (Reference r n)) → Tells i (go r n)) → Tells i (on_object tagged vs y go)
   object-tells i vs y go h =
       value-tells i (look_up tagged vs y) (λ v. on_referred tagged (tagged.as_reference v) go)
       (λ v q. referred-tells i (tagged.as_reference v) go (λ r n e. h r n (looked-up (slice_get vs y) v q ∙ ap (λ x. Some x) (referred-to v r n e))))
 
-  argument-tells : (i : Instruction) (a : Argument) (vs : List Held) (go : Held → List Held → Effect Held Name Mark) → ((v : Held) (ws : List Held) → Gives_one vs a v ws → Tells i (go v ws)) → Tells i (on_argument tagged a vs go)
+  argument-tells : (i : Instruction) (a : Argument) (vs : List Held) (go : Held → List Held → Resumption Held Name Mark) → ((v : Held) (ws : List Held) → Gives_one vs a v ws → Tells i (go v ws)) → Tells i (on_argument tagged a vs go)
   argument-tells i (Expression e) vs go h = value-tells i (eval tagged e vs) (λ v. go v vs) (λ v q. h v vs (plain_one e v q))
   argument-tells i (Consumed y) vs go h = value-tells i (look_up tagged vs y) (λ v. go v (clear tagged vs y)) (λ v q. h v (clear tagged vs y) (consumes_one y v (looked-up (slice_get vs y) v q) q))
 
-  arguments-tell : (i : Instruction) (args : List Argument) (before vs : List Held) (go : List Held → List Held → Effect Held Name Mark) → ((found ws : List Held) → Evaluates args vs found ws → Tells i (go (before ++ found) ws)) → Tells i (on_arguments tagged args before vs go)
+  arguments-tell : (i : Instruction) (args : List Argument) (before vs : List Held) (go : List Held → List Held → Resumption Held Name Mark) → ((found ws : List Held) → Evaluates args vs found ws → Tells i (go (before ++ found) ws)) → Tells i (on_arguments tagged args before vs go)
   arguments-tell i [] before vs go h = subst (λ xs. Tells i (go xs vs)) (append-nil before) (h [] vs (no_more vs))
   arguments-tell i (a ∷ rest) before vs go h = argument-tells i a vs (λ v ws. on_arguments tagged rest (before ++ v ∷ []) ws go) (λ v ws one. arguments-tell i rest (before ++ v ∷ []) ws go (λ found us more. on v ws one found us more))
     where
@@ -129,7 +129,7 @@ module _ (u : UnitCode) (l : Own) where
       on : (v : Held) (ws : List Held) → Gives_one vs a v ws → (found us : List Held) → Evaluates rest ws found us → Tells i (go ((before ++ v ∷ []) ++ found) us)
       on v ws one found us more = subst (λ xs. Tells i (go xs us)) (sym (append_assoc before (v ∷ []) found)) (h (v ∷ found) us (cons a v ws found us one more))
 
-  index-tells : (i : Instruction) (z : ℤ) (n : ℕ) (go : ℕ → Effect Held Name Mark) → ((f : ℕ) → Tells i (go f)) → Tells i (on_index tagged z n go)
+  index-tells : (i : Instruction) (z : ℤ) (n : ℕ) (go : ℕ → Resumption Held Name Mark) → ((f : ℕ) → Tells i (go f)) → Tells i (on_index tagged z n go)
   index-tells i (negsuc z) n go h = trap-tells i IndexOutOfRange
   index-tells i (pos z) n go h = within (nat_lt z n)
     where
@@ -137,15 +137,15 @@ module _ (u : UnitCode) (l : Own) where
       within true = h z
       within false = trap-tells i IndexOutOfRange
 
-  length-tells : (i : Instruction) (z : ℤ) (go : ℕ → Effect Held Name Mark) → ((n : ℕ) → Tells i (go n)) → Tells i (on_length tagged z go)
+  length-tells : (i : Instruction) (z : ℤ) (go : ℕ → Resumption Held Name Mark) → ((n : ℕ) → Tells i (go n)) → Tells i (on_length tagged z go)
   length-tells i (pos n) go h = h n
   length-tells i (negsuc n) go h = λ w. trapping i _
 
-  class-tells : (i : Instruction) (ts : Option (List Ty)) (go : ℕ → Effect Held Name Mark) → ((us : List Ty) → ts ≡ Some us → Tells i (go (length us))) → Tells i (on_class tagged ts go)
+  class-tells : (i : Instruction) (ts : Option (List Ty)) (go : ℕ → Resumption Held Name Mark) → ((us : List Ty) → ts ≡ Some us → Tells i (go (length us))) → Tells i (on_class tagged ts go)
   class-tells i None go h = tt
   class-tells i (Some ts) go h = h ts refl
 
-  call-tells : (i : Instruction) (consumed : Bool) (y : ℕ) (args : List Argument) (go : Held → List Held → List Held → Effect Held Name Mark)
+  call-tells : (i : Instruction) (consumed : Bool) (y : ℕ) (args : List Argument) (go : Held → List Held → List Held → Resumption Held Name Mark)
       → ((this : Held) (found ws : List Held) → Receives consumed y args this found ws → Tells i (go this found ws)) → Tells i (on_call tagged consumed y args l.vars go)
   call-tells i true y args go h =
       value-tells i (look_up tagged l.vars y) (λ this. on_arguments tagged args [] (clear tagged l.vars y) (λ found vs. go this found vs))
@@ -154,7 +154,7 @@ module _ (u : UnitCode) (l : Own) where
       arguments-tell i args [] l.vars (λ found vs. on_value tagged (look_up tagged vs y) (λ this. go this found vs))
       (λ found ws is. value-tells i (look_up tagged ws y) (λ this. go this found ws) (λ this q. h this found ws (last y args this found ws is (looked-up (slice_get ws y) this q))))
 
-  routine-tells : (i : Instruction) (r : Option Routine) (args : List Held) (go : Routine → Effect Held Name Mark) → ((s : Routine) → r ≡ Some s → nat_eq (length args) (length s.params) ≡ true → Tells i (go s)) → Tells i (on_routine tagged r args go)
+  routine-tells : (i : Instruction) (r : Option Routine) (args : List Held) (go : Routine → Resumption Held Name Mark) → ((s : Routine) → r ≡ Some s → nat_eq (length args) (length s.params) ≡ true → Tells i (go s)) → Tells i (on_routine tagged r args go)
   routine-tells i None args go h = tt
   routine-tells i (Some r) args go h = fitting (nat_eq (length args) (length r.params)) refl
     where
@@ -198,7 +198,7 @@ module _ (u : UnitCode) (l : Own) where
       number-tells (StoreItem y t e) (eval tagged t l.vars) (λ i. on_value tagged (eval tagged e l.vars) (λ v. if_number tagged (tagged.as_number v) (λ z. storing i v)))
       (λ i. value-tells (StoreItem y t e) (eval tagged e l.vars) (λ v. if_number tagged (tagged.as_number v) (λ z. storing i v)) (λ v q. number-if (StoreItem y t e) (tagged.as_number v) (λ z. storing i v) (λ z p. stored i v z q p)))
     where
-      storing : ℤ → Held → Effect Held Name Mark
+      storing : ℤ → Held → Resumption Held Name Mark
       storing i v = on_object tagged l.vars y (λ r n. on_index tagged i n (λ f. Does (Store r f v) (λ w. GoesOn l)))
 
       stored : (i : ℤ) (v : Held) (z : ℤ) → eval tagged e l.vars ≡ Gives v → option_and_then values.as_number v ≡ Some z → Tells (StoreItem y t e) (storing i v)
@@ -216,7 +216,7 @@ module _ (u : UnitCode) (l : Own) where
       call : Held → List Held → List Held → Routine → Act Held Mark
       call this found vs r = Calls (record { routine = m; code = r.code; first = first_vars tagged r this found; tie = tie; receiver = this; y = y; into = into }) (with_vars tagged l vs)
 
-      begun : Held → List Held → List Held → Routine → Effect Held Name Mark
+      begun : Held → List Held → List Held → Routine → Resumption Held Name Mark
       begun this found vs r = below_limit tagged l.depth (call this found vs r)
   effect-tells (Print e) =
       number-tells (Print e) (eval tagged e l.vars) (λ n. ticks tagged (GoesOn (record l { printed = l.printed ++ n ∷ [] })))
@@ -263,7 +263,7 @@ module _ (u : UnitCode) (l : Own) where
       beginning at rest st into tie consumed y m args r this found vs (while_called tagged Moves tie y vs) (lent_by Moves tie this)
       (record l { vars = first_vars tagged r this found; routine = m; depth = suc l.depth }) r.code l.routine is refl refl refl refl (record { vars = refl; routine = refl; mark = refl })
 
-  turn-of-tells : (at : Span) (i : Instruction) (rest : Code) (st : List (Frame Held)) (e : Effect Held Name Mark) → Tells i e → TurnTells (Do at i rest) st (turn_of tagged Moves at rest st e)
+  turn-of-tells : (at : Span) (i : Instruction) (rest : Code) (st : List (Frame Held)) (e : Resumption Held Name Mark) → Tells i e → TurnTells (Do at i rest) st (turn_of tagged Moves at rest st e)
   turn-of-tells at i rest st (Does o told) h = λ w. act-turns at i rest st w o (told w) (h w)
   turn-of-tells at i rest st Sticks h = tt
 

@@ -7,7 +7,7 @@ use Rattle.perm_tree.specs.Code.{Argument, Expression, Consumed, Instruction, De
 use Rattle.perm_meaning.specs.Values.{Eval, Gives, Traps, Mistyped, Referred, ToNull, ToObject, NoReference}
 use Rattle.perm_meaning.specs.Expressions.{tagged, clear, look_up, eval}
 use Rattle.perm_meaning.specs.Names.{Name, Mark}
-use Rattle.perm_meaning.specs.Effects.{Act, Calls, Effect, Does, Sticks, depth_limit, choose, ticks, halts, on_value, if_number, on_number, on_referred, on_object, on_argument, on_arguments, on_index, on_length, on_class, on_call, on_routine, below_limit, effect}
+use Rattle.perm_meaning.specs.Effects.{Act, Calls, Resumption, Does, Sticks, depth_limit, choose, ticks, halts, on_value, if_number, on_number, on_referred, on_object, on_argument, on_arguments, on_index, on_length, on_class, on_call, on_routine, below_limit, effect}
 use Rattle.perm_meaning.specs.NamedHeap.{Held, Own, marks}
 use Rattle.perm_core.specs.Endings.{ByReturn, ends}
 
@@ -21,40 +21,40 @@ CallsRightly (Calls x l) = ends ByReturn x.code ≡ true
 CallsRightly _ = Unit {0}
 
 -- the same whatever the heap answers
-abbrev pub AllCallRightly : Effect Held Name Mark → Type 0
+abbrev pub AllCallRightly : Resumption Held Name Mark → Type 0
 AllCallRightly Sticks = Unit {0}
 AllCallRightly (Does o told) = (v : Held) → CallsRightly (told v)
 
 -- ---------- ways on ----------
-value-calls : (e : Eval Held) (go : Held → Effect Held Name Mark) → ((v : Held) → AllCallRightly (go v)) → AllCallRightly (on_value tagged e go)
+value-calls : (e : Eval Held) (go : Held → Resumption Held Name Mark) → ((v : Held) → AllCallRightly (go v)) → AllCallRightly (on_value tagged e go)
 value-calls (Gives v) go k = k v
 value-calls (Traps t) go k = λ v. tt
 value-calls Mistyped go k = tt
 
-if-number-calls : (o : Option ℤ) (go : ℤ → Effect Held Name Mark) → ((n : ℤ) → AllCallRightly (go n)) → AllCallRightly (if_number tagged o go)
+if-number-calls : (o : Option ℤ) (go : ℤ → Resumption Held Name Mark) → ((n : ℤ) → AllCallRightly (go n)) → AllCallRightly (if_number tagged o go)
 if-number-calls None go k = tt
 if-number-calls (Some n) go k = k n
 
-number-calls : (e : Eval Held) (go : ℤ → Effect Held Name Mark) → ((n : ℤ) → AllCallRightly (go n)) → AllCallRightly (on_number tagged e go)
+number-calls : (e : Eval Held) (go : ℤ → Resumption Held Name Mark) → ((n : ℤ) → AllCallRightly (go n)) → AllCallRightly (on_number tagged e go)
 number-calls e go k = value-calls e (λ v. if_number tagged (tagged.as_number v) go) (λ v. if-number-calls (tagged.as_number v) go k)
 
-referred-calls : (r : Referred Name) (go : Name → ℕ → Effect Held Name Mark) → ((r : Name) (n : ℕ) → AllCallRightly (go r n)) → AllCallRightly (on_referred tagged r go)
+referred-calls : (r : Referred Name) (go : Name → ℕ → Resumption Held Name Mark) → ((r : Name) (n : ℕ) → AllCallRightly (go r n)) → AllCallRightly (on_referred tagged r go)
 referred-calls (ToObject r n) go k = k r n
 referred-calls ToNull go k = λ v. tt
 referred-calls NoReference go k = tt
 
-object-calls : (vs : List Held) (y : ℕ) (go : Name → ℕ → Effect Held Name Mark) → ((r : Name) (n : ℕ) → AllCallRightly (go r n)) → AllCallRightly (on_object tagged vs y go)
+object-calls : (vs : List Held) (y : ℕ) (go : Name → ℕ → Resumption Held Name Mark) → ((r : Name) (n : ℕ) → AllCallRightly (go r n)) → AllCallRightly (on_object tagged vs y go)
 object-calls vs y go k = value-calls (look_up tagged vs y) (λ v. on_referred tagged (tagged.as_reference v) go) (λ v. referred-calls (tagged.as_reference v) go k)
 
-argument-calls : (a : Argument) (vs : List Held) (go : Held → List Held → Effect Held Name Mark) → ((v : Held) (vs : List Held) → AllCallRightly (go v vs)) → AllCallRightly (on_argument tagged a vs go)
+argument-calls : (a : Argument) (vs : List Held) (go : Held → List Held → Resumption Held Name Mark) → ((v : Held) (vs : List Held) → AllCallRightly (go v vs)) → AllCallRightly (on_argument tagged a vs go)
 argument-calls (Expression e) vs go k = value-calls (eval tagged e vs) (λ v. go v vs) (λ v. k v vs)
 argument-calls (Consumed y) vs go k = value-calls (look_up tagged vs y) (λ v. go v (clear tagged vs y)) (λ v. k v (clear tagged vs y))
 
-arguments-call : (args : List Argument) (found vs : List Held) (go : List Held → List Held → Effect Held Name Mark) → ((found vs : List Held) → AllCallRightly (go found vs)) → AllCallRightly (on_arguments tagged args found vs go)
+arguments-call : (args : List Argument) (found vs : List Held) (go : List Held → List Held → Resumption Held Name Mark) → ((found vs : List Held) → AllCallRightly (go found vs)) → AllCallRightly (on_arguments tagged args found vs go)
 arguments-call [] found vs go k = k found vs
 arguments-call (e ∷ rest) found vs go k = argument-calls e vs (λ v vs. on_arguments tagged rest (found ++ v ∷ []) vs go) (λ v vs. arguments-call rest (found ++ v ∷ []) vs go k)
 
-index-calls : (i : ℤ) (n : ℕ) (go : ℕ → Effect Held Name Mark) → ((f : ℕ) → AllCallRightly (go f)) → AllCallRightly (on_index tagged i n go)
+index-calls : (i : ℤ) (n : ℕ) (go : ℕ → Resumption Held Name Mark) → ((f : ℕ) → AllCallRightly (go f)) → AllCallRightly (on_index tagged i n go)
 index-calls (pos i) n go k = which (nat_lt i n)
   where
     which : (t : Bool) → AllCallRightly (cond t (go i) (halts tagged IndexOutOfRange))
@@ -62,20 +62,20 @@ index-calls (pos i) n go k = which (nat_lt i n)
     which false = λ v. tt
 index-calls (negsuc i) n go k = λ v. tt
 
-length-calls : (n : ℤ) (go : ℕ → Effect Held Name Mark) → ((n : ℕ) → AllCallRightly (go n)) → AllCallRightly (on_length tagged n go)
+length-calls : (n : ℤ) (go : ℕ → Resumption Held Name Mark) → ((n : ℕ) → AllCallRightly (go n)) → AllCallRightly (on_length tagged n go)
 length-calls (pos n) go k = k n
 length-calls (negsuc n) go k = λ v. tt
 
-class-calls : (o : Option (List Ty)) (go : ℕ → Effect Held Name Mark) → ((n : ℕ) → AllCallRightly (go n)) → AllCallRightly (on_class tagged o go)
+class-calls : (o : Option (List Ty)) (go : ℕ → Resumption Held Name Mark) → ((n : ℕ) → AllCallRightly (go n)) → AllCallRightly (on_class tagged o go)
 class-calls None go k = tt
 class-calls (Some ts) go k = k (length ts)
 
-call-calls : (consumed : Bool) (y : ℕ) (args : List Argument) (vs : List Held) (go : Held → List Held → List Held → Effect Held Name Mark) → ((v : Held) (found vs : List Held) → AllCallRightly (go v found vs)) → AllCallRightly (on_call tagged consumed y args vs go)
+call-calls : (consumed : Bool) (y : ℕ) (args : List Argument) (vs : List Held) (go : Held → List Held → List Held → Resumption Held Name Mark) → ((v : Held) (found vs : List Held) → AllCallRightly (go v found vs)) → AllCallRightly (on_call tagged consumed y args vs go)
 call-calls true y args vs go k = value-calls (look_up tagged vs y) (λ v. on_arguments tagged args [] (clear tagged vs y) (λ found vs. go v found vs)) (λ v. arguments-call args [] (clear tagged vs y) (λ found vs. go v found vs) (λ found vs. k v found vs))
 call-calls false y args vs go k =
     arguments-call args [] vs (λ found vs. on_value tagged (look_up tagged vs y) (λ v. go v found vs)) (λ found vs. value-calls (look_up tagged vs y) (λ v. go v found vs) (λ v. k v found vs))
 
-routine-calls : (o : Option Routine) (found : List Held) (go : Routine → Effect Held Name Mark) → ((r : Routine) → o ≡ Some r → AllCallRightly (go r)) → AllCallRightly (on_routine tagged o found go)
+routine-calls : (o : Option Routine) (found : List Held) (go : Routine → Resumption Held Name Mark) → ((r : Routine) → o ≡ Some r → AllCallRightly (go r)) → AllCallRightly (on_routine tagged o found go)
 routine-calls None found go k = tt
 routine-calls (Some r) found go k = which (nat_eq (length found) (length r.params))
   where

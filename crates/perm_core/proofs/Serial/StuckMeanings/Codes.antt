@@ -10,7 +10,7 @@ use Rattle.perm_meaning.specs.Expressions.{tagged, clear, held, look_up, eval, v
 use Rattle.perm_meaning.specs.Names.{Name, Mark}
 use Rattle.perm_meaning.specs.Machine.{OpenBlock, OpenRecover, OpenCall, NoTurns}
 use Rattle.perm_meaning.specs.Custody.{Copies}
-use Rattle.perm_meaning.specs.Effects.{choose, Act, GoesOn, Calls, Halts, Effect, Does, Sticks, depth_limit, effect}
+use Rattle.perm_meaning.specs.Effects.{choose, Act, GoesOn, Calls, Halts, Resumption, Does, Sticks, depth_limit, effect}
 use Rattle.perm_meaning.specs.Turns as turns
 use Rattle.perm_meaning.specs.Turns.{blocks, acted, turn_of}
 use Rattle.perm_meaning.specs.NamedHeap.{Heap, Held, Own, marks, find, after}
@@ -88,7 +88,7 @@ module _ (u : UnitCode) (fits : ℕ → Bool) (t : ℕ) (again : Code → Moment
   perform-by at m (Calls x l) = returned-by l x.into (again x.code (record m { own = record l { vars = x.first; routine = x.routine; depth = suc l.depth } }))
   perform-by at m (Halts k) = tt
 
-  doing-by : (at : Span) (e : Effect Held Name Mark) (m : Moment) → EndsBy ByNothing (doing u fits again at e m)
+  doing-by : (at : Span) (e : Resumption Held Name Mark) (m : Moment) → EndsBy ByNothing (doing u fits again at e m)
   doing-by at Sticks m = tt
   doing-by at (Does o told) m = go (find fits o m.heap)
     where
@@ -110,7 +110,7 @@ module _ (u : UnitCode) (fits : ℕ → Bool) (t : ℕ) (again : Code → Moment
       begun = record { turns = m.turns; own = record l { vars = x.first; routine = x.routine; depth = suc l.depth }; heap = h }
 
   -- the turn of a simple statement
-  effect-stalls : (c : Code) (at : Span) (rest : Code) (st : List Frame) (m : Moment) (e : Effect Held Name Mark) → m.turns < t → AllCallRightly e → TurnStalls u fits c st m (turn_of tagged Copies at rest st e) (doing u fits again at e m)
+  effect-stalls : (c : Code) (at : Span) (rest : Code) (st : List Frame) (m : Moment) (e : Resumption Held Name Mark) → m.turns < t → AllCallRightly e → TurnStalls u fits c st m (turn_of tagged Copies at rest st e) (doing u fits again at e m)
   effect-stalls c at rest st m Sticks lt ok = tt
   effect-stalls c at rest st m (Does o told) lt ok = go (find fits o m.heap)
     where
