@@ -13,6 +13,7 @@ pub mod ToldEnds
 pub mod EveryRun
 pub mod WordsEnd
 pub mod SteadyCodes
+pub mod ByCopies
 pub mod LeftRuns
 pub mod LivelyRuns
 pub mod StuckMeanings

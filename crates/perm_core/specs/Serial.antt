@@ -3,10 +3,13 @@ use Rattle.std.specs.Prelude.{◌≡◌, ◌≢◌, ◌⊎◌, ℕ, ℤ, List, [
 use Rattle.perm_tree.specs.Code.{Routine, UnitCode}
 use Rattle.perm_meaning.specs.declared.End.TheVariants.{HeapFull}
 use Rattle.perm_meaning.specs.Machine.{Way, Final, final}
+use Rattle.perm_meaning.specs.Custody.{Copies}
 use Rattle.perm_meaning.specs.Names.{root_name}
 use Rattle.perm_meaning.specs.Objects.{size}
 use Rattle.perm_meaning.specs.NamedHeap as named
-use Rattle.perm_meaning.specs.NamedHeap.{State}
+use Rattle.perm_meaning.specs.NamedHeap.{State, memory}
+use Rattle.perm_meaning.specs.Steps as steps
+use Rattle.perm_meaning.specs.Steps.{within}
 use Rattle.perm_meaning.specs.Outcome.{Outcome, Report, Ran, RanFull, RanStuck, outcome, opening_state}
 use Rattle.perm_meaning.specs.Shows.{Bases, HeapShown}
 use Rattle.perm_meaning.specs.Told.{IsTold, told_end}
@@ -30,6 +33,17 @@ module _ (u : UnitCode) (limit : ℕ) where
   abbrev pub RefusedWhereFull : List ℤ → ℕ → Type 0
   RefusedWhereFull input turns = (r : Routine) (ws : List Way) → IsChecked u → Opens u limit input r → IsComplete u limit ws (opening_state u input turns r)
       → (SomeRefused ws (opening_state u input turns r) → outcome u input turns limit ≡ RanFull) × (outcome u input turns limit ≡ RanFull → SomeRefused ws (opening_state u input turns r))
+
+  -- the machine that copies variables goes the same way: each event is allowed at its place, the heap is the same, and the same is told of the end
+  pub record GoesByCopies (turns : ℕ) (ws : List Way) (first s : State) : Type 0 where
+    pub state : State
+    pub run : steps.runs (steps.step (named.named Copies u) (memory u) (within limit)) ws first ≡ Some state
+    pub heap : state.heap ≡ s.heap
+    pub told : core_outcome turns state ≡ core_outcome turns s
+
+  -- it does so with each lawful list of events
+  abbrev pub CopiesFollow : List ℤ → ℕ → Type 0
+  CopiesFollow input turns = (r : Routine) (ws : List Way) (s : State) → IsChecked u → Opens u limit input r → runs u limit ws (opening_state u input turns r) ≡ Some s → GoesByCopies turns ws (opening_state u input turns r) s
 
   -- the meaning of a checked unit is never stuck
   abbrev pub NeverStuck : List ℤ → ℕ → Type 0

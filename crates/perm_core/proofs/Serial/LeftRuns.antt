@@ -49,18 +49,6 @@ module _ (u : UnitCode) (limit : ℕ) (input : List ℤ) (turns : ℕ) (r : Rout
       go RanFull p = unstuck (λ q. let no : RanFull ≡ RanStuck = sym p ∙ q in let z : ⊥ = cc no in z)
       go RanStuck p = stuck p
 
-  -- each list of events of the core is one of the machine that copies variables, to a state that holds no less
-  pub events-copied : (ws : List Way) (s : State) → runs u limit ws (opening_state u input turns r) ≡ Some s
-      → (t : State) × (steps.runs (steps.step (named.named Copies u) (memory u) (within limit)) ws (opening_state u input turns r) ≡ Some t) × StateHoldsFewer none (opening_own u input r).vars s t
-  events-copied ws s e = lists-alike u steady limit input turns r o.run ws s e
-
-  -- where it is complete, both tell the same
-  pub complete-copied : (ws : List Way) (s : State) (f : Final named.Held) → runs u limit ws (opening_state u input turns r) ≡ Some s → final s.task ≡ Some f
-      → (t : State) × (steps.runs (steps.step (named.named Copies u) (memory u) (within limit)) ws (opening_state u input turns r) ≡ Some t) × (core_outcome turns s ≡ core_outcome turns t)
-  complete-copied ws s f e q =
-      let a = complete-alike u steady limit input turns r o.run ws s f e q in
-      (a.state, a.run, ap (λ z. told_of turns s z) q ∙ ap (λ z. Some z) (sym a.told) ∙ sym (ap (λ z. told_of turns a.state z) a.over))
-
   -- left first, the core ends as the meaning says
   pub left-first-tells : (n : ℕ) (s : State) (f : Final named.Held) → alone (core u) (memory u) (within limit) n (opening_state u input turns r) ≡ Some s → final s.task ≡ Some f → core_outcome turns s ≡ Some (outcome u input turns limit)
   left-first-tells n s f e q =
