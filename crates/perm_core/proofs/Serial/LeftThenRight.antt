@@ -45,10 +45,6 @@ module _ (u : UnitCode) (limit : ℕ) (input : List ℤ) (turns : ℕ) where
   reaches-picture keeps r ws t checked opens e =
       runs-keep (step u limit) (HasPicture u) (pictured-next u checked keeps limit) ws (opening_state u input turns r) t (first_picture, opens_with_picture u limit input turns r checked opens) e
 
-  -- so it leads to no conflict
-  pub reaches-no-conflict : KeepsPictures u → (r : Routine) (ws : List Way) (t : State) → IsChecked u → Opens u limit input r → runs (step u limit) ws (opening_state u input turns r) ≡ Some t → Conflict u t → ⊥
-  reaches-no-conflict keeps r ws t checked opens e = let x = reaches-picture keeps r ws t checked opens e in has_no_conflict u limit x.0 t x.1
-
   -- and no branch is stuck
   pub reaches-next : KeepsPictures u → (r : Routine) (ws : List Way) (t : State) → IsChecked u → Opens u limit input r → runs (step u limit) ws (opening_state u input turns r) ≡ Some t → AllHaveNext u limit t
   reaches-next keeps r ws t checked opens e = let x = reaches-picture keeps r ws t checked opens e in has_next u limit x.0 t checked x.1

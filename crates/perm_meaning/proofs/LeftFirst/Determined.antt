@@ -40,8 +40,3 @@ module _ {V G O H : Type 0} (m : Machine V G O) (memory : Memory V O H) (fits : 
   -- a run that ends is the only one from its opening that ends
   pub one_end : (n k : ℕ) (s t t' : State V G H) (f g : Final V) → alone m memory fits n s ≡ Some t → final t.task ≡ Some f → alone m memory fits k s ≡ Some t' → final t'.task ≡ Some g → (n ≡ k) × (t ≡ t')
   one_end n k s t t' f g e p e' q = determined n k s t t' e (over_at_rest t f p) e' (over_at_rest t' g q)
-
-  -- a run that comes to a refused allocation is the only one from its opening that does
-  pub one_refusal : (n k : ℕ) (s t t' : State V G H) (o p : O) → alone m memory fits n s ≡ Some t → look m (leftmost t.task) t.task ≡ Some o → memory.find fits o t.heap ≡ Refused
-      → alone m memory fits k s ≡ Some t' → look m (leftmost t'.task) t'.task ≡ Some p → memory.find fits p t'.heap ≡ Refused → (n ≡ k) × (t ≡ t')
-  one_refusal n k s t t' o p e a b e' a' b' = determined n k s t t' e (refused_at_rest t o a b) e' (refused_at_rest t' p a' b')

@@ -50,12 +50,6 @@ module _ (u : UnitCode) (n : ℕ) (p : Blocks) (s : IsSteadyPar p) (kv os ws ls 
   right-length : length rs ≡ length kv
   right-length = vars_length IsPart rs rs' r ∙ lr ∙ sym kept-length
 
-  after : List Held
-  after = merged (back_l u n p) (back_r u n p) kv ls rs
-
-  after' : List Held
-  after' = merged (writes_l p) (writes_r p) ws ls' rs'
-
   -- what comes back from the sides under moves is a part of what comes back under copies
   pub join-parts : AreParts (merged (back_l u n p) (back_r u n p) kv ls rs) (merged (writes_l p) (writes_r p) ws ls' rs')
   join-parts = parts-from-places _ _ long each

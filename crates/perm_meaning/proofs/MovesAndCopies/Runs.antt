@@ -31,28 +31,6 @@ module _ (u : UnitCode) (steady : IsSteady u) where
     pub lists-alike : (es : List Way) (s : State) → runs (step (named Moves u) (memory u) (within limit)) es opening ≡ Some s → (t : State) × (runs (step (named Copies u) (memory u) (within limit)) es opening ≡ Some t) × StateHoldsFewer none (opening_own u input r).vars s t
     lists-alike es s e = runs-fewer u steady (within limit) es opening opening s opening-fewer e
 
-    -- a list of events under copies is complete and tells this
-    pub record TellsTheSame (es : List Way) (o : Outcome) : Type 0 where
-      pub state : State
-      pub ending : Final
-      pub run : runs (step (named Copies u) (memory u) (within limit)) es opening ≡ Some state
-      pub over : final state.task ≡ Some ending
-      pub told : reported turns ending state.heap ≡ o
-
-    -- so it does where the list is complete under moves
-    pub complete-alike : (es : List Way) (s : State) (f : Final) → runs (step (named Moves u) (memory u) (within limit)) es opening ≡ Some s → final s.task ≡ Some f
-        → TellsTheSame es (reported turns f s.heap)
-    complete-alike es s f e q =
-        let a = lists-alike es s e in
-        let b = final-fewer none (opening_own u input r).vars a.2.0 f q in
-        record {
-          state = a.0;
-          ending = b.0;
-          run = a.1;
-          over = b.1;
-          told = ap (λ h. reported turns b.0 h) a.2.1 ∙ sym (told-alike none (opening_own u input r).vars turns s.heap f b.0 b.2);
-        }
-
     -- left first, the core ends as the meaning says
     pub ends-as-outcome : opening_need u input ≤ limit → outcome u input turns limit ≢ RanStuck
         → (n : ℕ) (s : State) (f : Final) → alone (named Moves u) (memory u) (within limit) n opening ≡ Some s → final s.task ≡ Some f → reported turns f s.heap ≡ outcome u input turns limit

@@ -78,10 +78,6 @@ either-on G H saved vs us e q r x h = subst (λ z. IsPartAt z (slice_get us x)) 
     which true = q x h
     which false = r x h
 
--- as many variables after some are cleared
-cleared-length : (own : List ℕ) (vs : List Held) → length (clear_all tagged vs own) ≡ length vs
-cleared-length own vs = (kept-cleared {H = none} own (λ x h. absurd (cc)) (kept-same none vs)).long
-
 -- what a set of variables keeps is no more than it was
 only-on : (G H : Vars) (vs : List Held) → ArePartsOn H (only tagged G vs) vs
 only-on G H vs x h = parts-at (only tagged G vs) vs (only-parts 0 G vs vs (parts-same vs)) x

@@ -82,9 +82,6 @@ module _ (b : Bases) (h : Heap) (c : Cells) (s : HeapShown b h c) (r : Name) (k 
           up (inl z) = inl (ap (λ n. suc n) z.0, z.1)
           up (inr z) = inr ((λ q. z.0 (omega arith)), z.1)
 
-  cells : Cells
-  cells = write c (k + f) w
-
   field_at : (n : Name) (l g : ℕ) (v : Value Name) → b n ≡ Some l → (t : Bool) → same_name n r ≡ t → value_in (with_field_if t f new (h.objects n)) g ≡ Some v → IsWordOf b (Some v) (word_or (nat_eq (l + g) (k + f)) w (c.word (l + g)))
   field_at n l g v p false d e =
       let o = holder_of (h.objects n) g v e in

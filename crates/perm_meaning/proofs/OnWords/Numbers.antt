@@ -24,11 +24,6 @@ word_below n f = (laws.of_z_fits w64 n f).fits
 pub in_fits : (w : ℕ) → w < 2 ^ 64 → FitsSigned w64 (number_in w)
 in_fits w h = laws.to_z-Fits w64 w (record { fits = h })
 
--- so have the numbers of words
-pub words_fit : (ws : List ℕ) → AllByRecursion (λ w. w < 2 ^ 64) ws → NumbersFit (map number_in ws)
-words_fit [] h = tt
-words_fit (w ∷ ws) h = (in_fits w h.0, words_fit ws h.1)
-
 -- a word is that of its number
 pub word_back : (w : ℕ) → w < 2 ^ 64 → number_word (number_in w) ≡ w
 word_back w h = of_z-to_z w64 w h
@@ -61,11 +56,6 @@ equal_words w x h k = go (nat_eq w x) (int_eq (number_in w) (number_in x)) refl 
 -- ---------- quotients and remainders ----------
 fits_by : (z : ℤ) → unsigned_abs z < 2 ^ 63 → FitsSigned w64 z
 fits_by z h = fits_signed_from_abs w64 z h
-
--- the absolute value of a negative
-abs_negative : (n : ℕ) → unsigned_abs (neg_ℤ (pos n)) ≡ n
-abs_negative zero = refl
-abs_negative (suc n) = refl
 
 least_or_less : (a : ℕ) → a < 2 ^ 63 → int_eq (negsuc a) least ≡ false → suc a < 2 ^ 63
 least_or_less a h e = let x = eq_false a 9223372036854775807 e in omega arith

@@ -44,9 +44,6 @@ module _ (c : Custody) (u : UnitCode) (uf : UnitFits u) (fits : ℕ → Bool) (s
   is_fit : (s : State) → IsKept c u uf fits s → Fits s
   is_fit s k = record { leaves = all_short [] s s.task k; sound = λ w o e. asks_sound c u uf fits w [] s.heap s.task o k e }
 
-  abbrev Shown : Bases → State → on_words.State → Type 0
-  Shown b s t = IsAlike (named c u) (worded c u) IsWordOf (λ b. AnyMark) (Asks u) Grows IsShort (alike c u) (memory u) on_words.memory fits HeapShown b s t
-
   -- a state on words that shows one on names goes on showing it, left first
   pub words_alone : (n : ℕ) (b : Bases) (s s' : State) (t : on_words.State) → IsKept c u uf fits s → IsShownBy b s t → alone (named c u) (memory u) fits n s ≡ Some s'
       → (d : Bases) × (t' : on_words.State) × (alone (worded c u) on_words.memory fits n t ≡ Some t') × Grows b d × IsShownBy d s' t' × IsKept c u uf fits s'

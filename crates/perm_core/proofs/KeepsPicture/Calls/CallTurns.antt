@@ -148,9 +148,6 @@ module _ (u : UnitCode) (whole : IsWhole u) (labels : Labels) (h : Objects Name)
   abbrev c : Context
   c = context_of u b.own.routine
 
-  abbrev caller : ℕ
-  caller = b.own.routine
-
   -- the labels after the call has begun
   abbrev pub called : Labels
   called n = moved (call_moves c (at Here) z st tie consumed y args (slice_get u.routines m)) (labels n)

@@ -188,11 +188,6 @@ evaluates-has _ _ _ _ (turns.consumes x v rest vs found ws here q more) =
     let r = evaluates-has rest (clear tagged vs x) found ws more in
     ((held-has (slice_get vs x) v q, r.0), λ y m. let p = minus-both (valued vs) (just x) (arguments_consume rest) y m in r.1 y (together (valued (clear tagged vs x) y) (not (arguments_consume rest y)) (clear-has vs x y p.0) p.1))
 
-pub evaluates-length : (args : List Argument) (vs found ws : List Held) → Evaluates args vs found ws → length ws ≡ length vs
-evaluates-length _ _ _ _ (no_more vs) = refl
-evaluates-length _ _ _ _ (plain e v rest vs found ws q more) = evaluates-length rest vs found ws more
-evaluates-length _ _ _ _ (turns.consumes x v rest vs found ws here q more) = evaluates-length rest (clear tagged vs x) found ws more ∙ set-length vs x _
-
 less-left : (G H : Vars) → IsWithin (plus (minus G none) H) (plus G H)
 less-left G H y e = pick (or_cases (minus G none y) (H y) e)
   where

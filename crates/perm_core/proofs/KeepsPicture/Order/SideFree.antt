@@ -31,9 +31,6 @@ free-fewer D E (Recover at x own hides body rest) less free = (free-fewer D E bo
 
 -- what is held of a set but doesn't stand in one place
 module _ (U : Vars) where
-  abbrev Left : Vars → Vars
-  Left M = minus U M
-
   stands-out : (M : Vars) (y : ℕ) → M y ≡ true → minus U M y ≡ false
   stands-out M y m = ap (λ b. U y && not b) m ∙ zero (U y)
     where

@@ -13,11 +13,6 @@ use Rattle.perm_core.specs.Picture.{lowest, stands_in, sides_stand, path_of, Pat
 use Rattle.perm_core.proofs.KeepsPicture.Turns.LeafTurns.{TurnTo, dying, ending, acting, making, beginning, left_block, right_block, into_loop, out_of_loop, parting, recovering, giving, returning}
 use Rattle.perm_core.proofs.KeepsPicture.Trees.TreeEvents.{EventAt, refused_leaf, told_leaf, joining, on_left, on_right}
 
--- the method that stands lowest in a tree's root
-abbrev root_lowest : Task → ℕ
-root_lowest (Leaf b) = lowest b.own.routine b.stack
-root_lowest (Fork b p l r) = lowest b.own.routine b.stack
-
 module _ (u : UnitCode) where
   -- ---------- a branch that goes on ----------
   pub settled-lowest : (b : Branch) (vs : List Held) (c : Code) (st : List (Frame Held)) → lowest (settled (core u) b vs c st).own.routine (settled (core u) b vs c st).stack ≡ lowest b.own.routine st
