@@ -5,7 +5,7 @@ use Rattle.perm_tree.specs.Code.{Routine, UnitCode}
 use Rattle.perm_tree.specs.Vars.{none}
 use Rattle.perm_meaning.specs.NamedHeap.{memory, Final, State, named}
 use Rattle.perm_meaning.specs.Steps.{within, alone, leftmost, runs, step}
-use Rattle.perm_meaning.specs.Outcome.{Outcome, RanStuck, outcome, opening_state, RanFull, opening_own, reported, opening_need}
+use Rattle.perm_meaning.specs.Outcome.{RanStuck, outcome, opening_state, RanFull, opening_own, reported, opening_need}
 use Rattle.perm_meaning.specs.Machine.{Way, final}
 use Rattle.perm_meaning.specs.Custody.{Copies, Moves}
 use Rattle.perm_meaning.specs.Steady.{IsSteady}

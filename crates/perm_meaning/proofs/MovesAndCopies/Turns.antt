@@ -4,7 +4,7 @@ use Rattle.std.specs.Prelude.{not, slice_get, nat_lt}
 use Rattle.std.proofs.lemmas.Bool.{or_parts, or_left, or_cases}
 use Rattle.perm_tree.specs.declared.ast.Span.{Span}
 use Rattle.perm_tree.specs.Code.{Code, End, Return, Give, Do, If, Par, Recover, UnitCode, While}
-use Rattle.perm_tree.specs.Vars.{none, Vars, just, those, plus, minus}
+use Rattle.perm_tree.specs.Vars.{Vars, just, those, plus, minus}
 use Rattle.perm_tree.specs.Mentions.{consumes, assigns, written, block_writes}
 use Rattle.perm_tree.specs.declared.errors.TrapKind.{TrapKind}
 use Rattle.perm_tree.specs.declared.errors.TrapKind.TheVariants.{StackOverflow}

@@ -1,15 +1,13 @@
 -- Numbers of 64 bits as words: both ways, their operators, and the words of references.
-use Rattle.std.proofs.Common.{◌≡◌, ℕ, zero, suc, ◌/◌, ◌%◌, ◌<◌, ◌≤◌, ◌^◌, Bool, true, false, List, [], ◌∷◌, refl, sym, ap, ◌∙◌, arith}
-use Rattle.std.specs.Prelude.{nat_eq, ◌&&◌, ℤ, pos, negsuc, neg_ℤ, FitsSigned, int_div, int_rem, unsigned_abs, map}
+use Rattle.std.proofs.Common.{◌≡◌, ℕ, zero, suc, ◌/◌, ◌%◌, ◌<◌, ◌≤◌, ◌^◌, Bool, true, false, refl, sym, ap, ◌∙◌, arith}
+use Rattle.std.specs.Prelude.{nat_eq, ◌&&◌, ℤ, pos, negsuc, neg_ℤ, FitsSigned, int_div, int_rem, unsigned_abs}
 use Rattle.std.specs.Int.{cast_signed}
-use Rattle.std.specs.List.{AllByRecursion}
 use Rattle.std.proofs.Math.Nat.{div-le_self, div-lt_self}
 use Rattle.std.proofs.lemmas.Int.{to_z-of_z, of_z-to_z, fits_signed_from_abs, rem_below}
 use mir.Syntax.{w64}
 use mir.ValLaws as laws
 use Rattle.perm_meaning.specs.Values.{least, int_eq, overflows, ToObject}
 use Rattle.perm_meaning.specs.Words.{number_in, number_word, reference_word, referred_by, reference_in}
-use Rattle.perm_meaning.specs.Literals.{NumbersFit}
 use Rattle.perm_meaning.proofs.SameName.{eq_true, eq_false, eq_itself}
 
 -- ---------- both ways ----------

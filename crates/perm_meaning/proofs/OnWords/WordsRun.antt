@@ -23,7 +23,7 @@ use Rattle.perm_meaning.specs.Told.{IsTold}
 use Rattle.perm_meaning.specs.Claims.{BeginsOnWords, AfterLeftFirstOnWords, WordsShowNames, WordsEndAsMeaning, WordsFillAsMeaning}
 use Rattle.perm_meaning.proofs.Leads.{some_inj, none_some}
 use Rattle.perm_meaning.proofs.OnWords.Related.{final_alike, leftmost_alike}
-use Rattle.perm_meaning.proofs.OnWords.Simulate.{AllFit, IsAlike, IsFit, same_step, same_refusal, same_alone}
+use Rattle.perm_meaning.proofs.OnWords.Simulate.{AllFit, IsFit, same_step, same_refusal, same_alone}
 use Rattle.perm_meaning.proofs.OnWords.NewObjects.{IsSmall, Asks, IsSound, heaps}
 use Rattle.perm_meaning.proofs.OnWords.TurnsAlike.{IsShort, alike}
 use Rattle.perm_meaning.proofs.OnWords.Moved.{routine_fits}
