@@ -7,28 +7,18 @@ use Rattle.std.proofs.Math.Seq.{get_or-append_seam}
 use Rattle.perm_tree.specs.declared.ast.Stmt.{Stmt}
 use Rattle.perm_tree.specs.declared.unit.VarInfo.{VarInfo}
 use Rattle.perm_tree.specs.Code.{Code}
-use Rattle.perm_tree.specs.CodeOf.{Setting, kind_code}
+use Rattle.perm_tree.specs.CodeOf.{kind_code}
 use Rattle.perm_tree.specs.Entries.{entries_from}
 use Rattle.perm_tree.specs.Places.{KindPlaced}
 use Rattle.perm_tree.specs.Scopes.{inner_vars}
 use Rattle.perm_tree.specs.TextOrder.{Marks, stmt_marks}
-use Rattle.perm_rules.specs.Parts.{Context}
 use Rattle.perm_rules.proofs.Pars.OwnVariables.{MethodFacts}
 use Rattle.perm_rules.proofs.Pars.Tellings.{TellsOf, IsTold}
 use Rattle.perm_rules.proofs.Pars.KindsOfStatements.{kind-told}
 
 module _ (facts : MethodFacts) where
-  abbrev k : Setting
-  k = facts.setting
-
-  abbrev c : Context
-  c = facts.context
-
-  abbrev stmts : List Stmt
-  stmts = facts.setting.tables.program.stmts
-
-  abbrev exprs : List Marks
-  exprs = facts.exprs
+  open facts use {setting as k, context as c, exprs}
+  open k.tables.program use {stmts}
 
   -- what is told stays so behind it
   old-told : (ms : List Marks) (fs : List (Code → Code)) (inner : List (List VarInfo)) (m : Marks) (f : Code → Code) (vs : List VarInfo) (at : ℕ) → length fs ≡ length ms → length inner ≡ length ms → at < length ms

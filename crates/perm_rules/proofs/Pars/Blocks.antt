@@ -9,48 +9,21 @@ use Rattle.perm_tree.specs.declared.ast.FieldDecl.{FieldDecl}
 use Rattle.perm_tree.specs.declared.ast.Stmt.{Stmt}
 use Rattle.perm_tree.specs.declared.unit.VarInfo.{VarInfo}
 use Rattle.perm_tree.specs.Code.{Code, End}
-use Rattle.perm_tree.specs.CodeOf.{Setting, var_at, own_vars, sequence}
+use Rattle.perm_tree.specs.CodeOf.{var_at, own_vars, sequence}
 use Rattle.perm_tree.specs.Mentions.{mentioned, block_mentions}
 use Rattle.perm_tree.specs.Places.{AllBelow, ElseBelow}
 use Rattle.perm_tree.specs.Scopes.{declared_by, declared_if, known_until, end_if, block_end, block_vars, braced_vars, else_stmts}
-use Rattle.perm_tree.specs.TextOrder.{Mark, IsRising, Marks, block_marks}
+use Rattle.perm_tree.specs.TextOrder.{Mark, IsRising, block_marks}
 use Rattle.perm_tree.specs.Vars.{those}
-use Rattle.perm_rules.specs.Parts.{Context}
 use Rattle.perm_rules.proofs.Pars.Beginnings.{IsAmong, among-append, among-none, Rows, rows-none, rows-more, rows-append, AllNamed, named-rows, AreAll, begin-left, begin-right, AllBegin, declared-listed, BeginIn}
 use Rattle.perm_rules.proofs.Pars.CodeWalks.{Encloses, walks-same, encloses-end}
-use Rattle.perm_rules.proofs.Pars.OwnVariables.{MethodFacts}
 use Rattle.perm_rules.proofs.Pars.Tellings.{Earlier, Tells, tells-none, tells-then, outer-begins, begins-sooner, Ends, TellsIn, IsTold}
 
 module _ (earlier : Earlier) where
-  abbrev facts : MethodFacts
-  facts = earlier.facts
-
-  abbrev vars : List VarInfo
-  vars = facts.setting.vars
-
-  abbrev k : Setting
-  k = facts.setting
-
-  abbrev c : Context
-  c = facts.context
-
-  abbrev stmts : List Stmt
-  stmts = facts.setting.tables.program.stmts
-
-  abbrev base : ℕ
-  base = facts.base
-
-  abbrev ms : List Marks
-  ms = earlier.marks
-
-  abbrev fs : List (Code → Code)
-  fs = earlier.codes
-
-  abbrev inner : List (List VarInfo)
-  inner = earlier.inner
-
-  abbrev n : ℕ
-  n = earlier.count
+  open earlier use {facts, marks as ms, codes as fs, inner, count as n}
+  open facts use {setting as k, context as c, base}
+  open k use {vars}
+  open k.tables.program use {stmts}
 
   -- a block ends at a place, from which the other marks rise; its variables begin in it; and its code tells what it tells
   pub record BlockEnds (lo hi : ℕ) (rest : List Mark) (ws : ℕ → List VarInfo) (own : List ℕ) (f : Code → Code) : Type 0 where

@@ -9,56 +9,27 @@ use Rattle.perm_tree.specs.declared.ast.StmtKind.{StmtKind}
 use Rattle.perm_tree.specs.declared.ast.StmtKind.TheVariants.{Declare as DeclareStmt, Assign as AssignStmt, SetField, SetItem, Call as CallStmt, Print as PrintStmt, If as IfStmt, While as WhileStmt, Par as ParStmt}
 use Rattle.perm_tree.specs.declared.unit.VarInfo.{VarInfo}
 use Rattle.perm_tree.specs.Code.{Instruction, Declare, StoreField, StoreItem, Print, Code, End, Do}
-use Rattle.perm_tree.specs.CodeOf.{Setting, term_at, var_at, field_at, argument, call, own_vars, sequence, assignment, kind_code}
+use Rattle.perm_tree.specs.CodeOf.{term_at, var_at, field_at, argument, call, own_vars, sequence, assignment, kind_code}
 use Rattle.perm_tree.specs.Mentions.{term_mentions, argument_mentions, mentions, consumes, assigns, mentioned, block_mentions}
 use Rattle.perm_tree.specs.Places.{KindPlaced}
 use Rattle.perm_tree.specs.Scopes.{declared_by, known_until, braced_vars, else_stmts, rhs_vars, inner_vars}
-use Rattle.perm_tree.specs.TextOrder.{Mark, names, ends, IsRising, Marks, marks_at, arg_marks, block_marks, kind_marks}
+use Rattle.perm_tree.specs.TextOrder.{Mark, names, ends, IsRising, marks_at, arg_marks, block_marks, kind_marks}
 use Rattle.perm_tree.specs.Vars.{Vars, none, just, plus, IsWithin}
-use Rattle.perm_rules.specs.Parts.{Context}
 use Rattle.perm_rules.specs.Pars.{touched_by}
 use Rattle.perm_rules.proofs.Pars.Scoped.{Meets, meets-more, named-meets}
 use Rattle.perm_rules.proofs.Pars.Beginnings.{among-none, Rows, rows-none, rows-more, AllNamed, named-rows, AreAll, begin-right, begin-within, Begins, AllBegin, BeginIn}
 use Rattle.perm_rules.proofs.Pars.StandingTerms.{Stands, stands-name, stands-past, stands-then, expr-at, arg-stands, call-stands}
 use Rattle.perm_rules.proofs.Pars.CodeWalks.{Walks, walks-more, do-walks, if-walks, par-walks, while-walks, encloses-sooner, shares-plainly}
-use Rattle.perm_rules.proofs.Pars.OwnVariables.{MethodFacts, OwnLie, own-one, own-begun}
+use Rattle.perm_rules.proofs.Pars.OwnVariables.{OwnLie, own-one, own-begun}
 use Rattle.perm_rules.proofs.Pars.Tellings.{Earlier, Opens, walks-open, opens-own, opens-none, Tells, tells-none, Ends, simple-ends, TellsIn}
 use Rattle.perm_rules.proofs.Pars.Blocks.{InBraces, BracedTold, braced-told, BothTold, both-told, else-below}
 use Rattle.perm_rules.proofs.Pars.RightSides.{rhs-told}
 
 module _ (earlier : Earlier) where
-  abbrev facts : MethodFacts
-  facts = earlier.facts
-
-  abbrev vars : List VarInfo
-  vars = facts.setting.vars
-
-  abbrev k : Setting
-  k = facts.setting
-
-  abbrev c : Context
-  c = facts.context
-
-  abbrev stmts : List Stmt
-  stmts = facts.setting.tables.program.stmts
-
-  abbrev exprs : List Marks
-  exprs = facts.exprs
-
-  abbrev base : ℕ
-  base = facts.base
-
-  abbrev ms : List Marks
-  ms = earlier.marks
-
-  abbrev fs : List (Code → Code)
-  fs = earlier.codes
-
-  abbrev inner : List (List VarInfo)
-  inner = earlier.inner
-
-  abbrev n : ℕ
-  n = earlier.count
+  open earlier use {facts, marks as ms, codes as fs, inner, count as n}
+  open facts use {setting as k, context as c, exprs, base}
+  open k use {vars}
+  open k.tables.program use {stmts}
 
   abbrev KindTold : ℕ → List Mark → Stmt → StmtKind → Type 0
   KindTold lo rest s kind = AllNamed lo s.span.end (declared_by kind) × Ends facts lo s.span.end rest (inner_vars stmts inner kind) (TellsIn facts lo s.span.end (declared_by kind) (inner_vars stmts inner kind) (kind_code k fs s kind))

@@ -3,7 +3,6 @@ use Rattle.std.proofs.Common.{◌≡◌, ℕ, ◌<◌, ◌≤◌, true, false, L
 use Rattle.std.specs.Prelude.{◌⊎◌, nat_eq, map, slice_get}
 use Rattle.std.proofs.lemmas.Bool.{eqb-true, or_cases, or_left, or_right}
 use Rattle.perm_tree.specs.declared.ast.FieldDecl.{FieldDecl}
-use Rattle.perm_tree.specs.declared.unit.VarInfo.{VarInfo}
 use Rattle.perm_tree.specs.CodeOf.{Setting, var_at}
 use Rattle.perm_tree.specs.Scopes.{known_until}
 use Rattle.perm_tree.specs.TextOrder.{Marks}
@@ -25,11 +24,8 @@ pub record MethodFacts : Type 0 where
   pub terms : AllTermsStand setting.vars exprs setting.terms
 
 module _ (facts : MethodFacts) where
-  abbrev vars : List VarInfo
-  vars = facts.setting.vars
-
-  abbrev k : Setting
-  k = facts.setting
+  open facts use {setting as k}
+  open k use {vars}
 
   -- some declarations have scopes that begin in a stretch and end with it
   abbrev pub OwnLie : ℕ → ℕ → List FieldDecl → Type 0

@@ -8,58 +8,28 @@ use Rattle.perm_tree.specs.declared.ast.Rhs.TheVariants.{Value, Field, TakeField
 use Rattle.perm_tree.specs.declared.ast.Stmt.{Stmt}
 use Rattle.perm_tree.specs.declared.unit.VarInfo.{VarInfo}
 use Rattle.perm_tree.specs.Code.{Instruction, Assign as SetVar, LoadField, LoadLength, LoadItem, TakeField, NewObject, NewArray, Code, Give, Do}
-use Rattle.perm_tree.specs.CodeOf.{Setting, term_at, var_at, ty_at, field_at, argument, call, own_vars, tied_before, sequence, assignment}
+use Rattle.perm_tree.specs.CodeOf.{term_at, var_at, ty_at, field_at, argument, call, own_vars, tied_before, sequence, assignment}
 use Rattle.perm_tree.specs.Lookup.{class_place, is_array}
 use Rattle.perm_tree.specs.Mentions.{term_mentions, argument_mentions, mentions, consumes, assigns, mentioned, block_mentions}
 use Rattle.perm_tree.specs.Places.{RhsPlaced}
 use Rattle.perm_tree.specs.Scopes.{block_end, block_vars, rhs_vars}
 use Rattle.perm_tree.specs.Spelling.{length_word, is_word}
-use Rattle.perm_tree.specs.TextOrder.{Mark, names, ends, IsRising, Marks, marks_at, rhs_marks}
+use Rattle.perm_tree.specs.TextOrder.{Mark, names, ends, IsRising, marks_at, rhs_marks}
 use Rattle.perm_tree.specs.Vars.{Vars, none, just, those, plus, IsWithin}
 use Rattle.perm_tree.proofs.Passing.{past-name}
-use Rattle.perm_rules.specs.Parts.{Context}
 use Rattle.perm_rules.specs.Pars.{touched_by}
 use Rattle.perm_rules.proofs.Pars.Scoped.{Meets, meets-more, lies-more, named-meets, known-found}
 use Rattle.perm_rules.proofs.Pars.Beginnings.{IsAmong, among-none, Rows, rows-none, rows-more, AreAll, begin-within, Begins, AllBegin, begun-more, hides-begin, tied-hidden, BeginIn}
 use Rattle.perm_rules.proofs.Pars.StandingTerms.{Stands, stands-none, stands-name, stands-less, stands-also, stands-past, stands-then, expr-at, arg-stands, args_mention, call-stands}
 use Rattle.perm_rules.proofs.Pars.CodeWalks.{Walks, Recovers, walks-more, recover-walks, encloses-give}
-use Rattle.perm_rules.proofs.Pars.OwnVariables.{MethodFacts}
 use Rattle.perm_rules.proofs.Pars.Tellings.{Earlier, Opens, walks-open, opens-none, Tells, outer-begins, Ends, simple-ends}
 use Rattle.perm_rules.proofs.Pars.Blocks.{BlockTold, block-told}
 
 module _ (earlier : Earlier) where
-  abbrev facts : MethodFacts
-  facts = earlier.facts
-
-  abbrev vars : List VarInfo
-  vars = facts.setting.vars
-
-  abbrev k : Setting
-  k = facts.setting
-
-  abbrev c : Context
-  c = facts.context
-
-  abbrev stmts : List Stmt
-  stmts = facts.setting.tables.program.stmts
-
-  abbrev exprs : List Marks
-  exprs = facts.exprs
-
-  abbrev base : ℕ
-  base = facts.base
-
-  abbrev ms : List Marks
-  ms = earlier.marks
-
-  abbrev fs : List (Code → Code)
-  fs = earlier.codes
-
-  abbrev inner : List (List VarInfo)
-  inner = earlier.inner
-
-  abbrev n : ℕ
-  n = earlier.count
+  open earlier use {facts, marks as ms, codes as fs, inner, count as n}
+  open facts use {setting as k, context as c, exprs, base}
+  open k use {vars}
+  open k.tables.program use {stmts}
 
   -- an assignment to a variable that stands before its right side
   abbrev RhsTold : ℕ → ℕ → List Mark → Stmt → List VarInfo → (Code → Code) → Type 0

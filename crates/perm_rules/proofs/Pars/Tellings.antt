@@ -7,12 +7,11 @@ use Rattle.perm_tree.specs.declared.ast.FieldDecl.{FieldDecl}
 use Rattle.perm_tree.specs.declared.ast.Stmt.{Stmt}
 use Rattle.perm_tree.specs.declared.unit.VarInfo.{VarInfo}
 use Rattle.perm_tree.specs.Code.{Instruction, Code, Do}
-use Rattle.perm_tree.specs.CodeOf.{Setting, var_at}
+use Rattle.perm_tree.specs.CodeOf.{var_at}
 use Rattle.perm_tree.specs.Mentions.{mentions, consumes, assigns, mentioned, block_mentions}
 use Rattle.perm_tree.specs.Scopes.{declared_by, known_until}
 use Rattle.perm_tree.specs.TextOrder.{Mark, ends, IsRising, Marks}
 use Rattle.perm_tree.specs.Vars.{those, plus, IsWithin}
-use Rattle.perm_rules.specs.Parts.{Context}
 use Rattle.perm_rules.specs.Pars.{touched_by}
 use Rattle.perm_rules.proofs.Pars.Scoped.{Meets, AllLie, meets-more}
 use Rattle.perm_rules.proofs.Pars.Beginnings.{IsAmong, among-append, AllStartIn, Rows, rows-none, AllNamed, AreAll, Begins, AllBegin, AreBegun, declared-listed, BeginIn}
@@ -21,20 +20,9 @@ use Rattle.perm_rules.proofs.Pars.CodeWalks.{Walks, walks-then, do-walks}
 use Rattle.perm_rules.proofs.Pars.OwnVariables.{MethodFacts, own-none, own-both, begun-both}
 
 module _ (facts : MethodFacts) where
-  abbrev vars : List VarInfo
-  vars = facts.setting.vars
-
-  abbrev k : Setting
-  k = facts.setting
-
-  abbrev c : Context
-  c = facts.context
-
-  abbrev stmts : List Stmt
-  stmts = facts.setting.tables.program.stmts
-
-  abbrev base : ℕ
-  base = facts.base
+  open facts use {setting as k, context as c, base}
+  open k use {vars}
+  open k.tables.program use {stmts}
 
   -- ---------- where what stands in a code begins ----------
   -- what stands in a code stands behind it, or begins before a place
