@@ -4,10 +4,9 @@ use Rattle.std.specs.Prelude.{ℤ}
 use Rattle.perm_tree.specs.Code.{UnitCode}
 use Rattle.perm_core.specs.Serial.{EndsLeftThenRight, RefusedWhereFull, NeverStuck}
 use Rattle.perm_core.proofs.KeepsPicture.PictureEvents.{keeps-picture}
-use Rattle.perm_core.proofs.Serial.LivelyRuns.{picture-comes, picture-fills}
+use Rattle.perm_core.proofs.Serial.LivelyRuns.{picture-unstuck, picture-comes, picture-fills}
 use Rattle.perm_core.proofs.Serial.FreeRuns.{KeepsPictures}
-use Rattle.perm_core.proofs.Serial.LeftFirst.{GoesLeftFirst, goes-so, all-end-left-then-right, all-refused-where-full}
-use Rattle.perm_core.proofs.Serial.ToldEnds.{meaning-unstuck}
+use Rattle.perm_core.proofs.Serial.LeftFirst.{GoesLeftFirst, all-end-left-then-right, all-refused-where-full}
 
 module _ (u : UnitCode) (limit : ℕ) (input : List ℤ) (turns : ℕ) where
   keeps-pictures : KeepsPictures u
@@ -15,8 +14,8 @@ module _ (u : UnitCode) (limit : ℕ) (input : List ℤ) (turns : ℕ) where
 
   goes-left-first : GoesLeftFirst u limit input turns
   goes-left-first = record {
-    ends = λ r checked opens not. (let x = picture-comes u limit (keeps-pictures limit) checked input turns r opens not in record { events = x.0; state = x.1; run = x.2; told = x.3 });
-    fills = λ r checked opens full. (let x = picture-fills u limit (keeps-pictures limit) checked input turns r opens full in record { events = x.0; state = x.1; op = x.2; run = x.3; looked = x.4; refused = x.5 });
+    ends = λ r checked opens not. (let x = picture-comes u limit keeps-pictures checked input turns r opens not in record { events = x.0; state = x.1; run = x.2; told = x.3 });
+    fills = λ r checked opens full. (let x = picture-fills u limit keeps-pictures checked input turns r opens full in record { events = x.0; state = x.1; op = x.2; run = x.3; looked = x.4; refused = x.5 });
   }
 
   pub every-list-ends : EndsLeftThenRight u limit input turns
@@ -27,4 +26,4 @@ module _ (u : UnitCode) (limit : ℕ) (input : List ℤ) (turns : ℕ) where
 
   -- the meaning of a checked unit isn't stuck
   pub never-stuck : NeverStuck u limit input turns
-  never-stuck r checked opens = meaning-unstuck u checked keeps-pictures limit input turns r opens (goes-so u limit input turns keeps-pictures goes-left-first)
+  never-stuck r checked opens = picture-unstuck u limit keeps-pictures checked input turns r opens

@@ -8,11 +8,10 @@ use Rattle.perm_meaning.specs.NamedHeap.{Heap, Held, Final, State}
 use Rattle.perm_meaning.specs.Outcome.{Outcome, RanFull, outcome, reported, opening_state}
 use Rattle.perm_meaning.specs.Steps.{runs}
 use Rattle.perm_meaning.proofs.Leads.{some_inj, none_some}
-use Rattle.perm_core.specs.Core.{step, told_of, core_outcome, Conflict}
+use Rattle.perm_core.specs.Core.{step, told_of, core_outcome}
 use Rattle.perm_core.specs.NextPicture.{first_picture}
 use Rattle.perm_core.specs.Claims.{IsChecked, Opens, AllHaveNext}
 use Rattle.perm_core.specs.Serial.{SomeRefused, EndsLeftThenRight, RefusedWhereFull}
-use Rattle.perm_core.proofs.Commute.Conflicts.{has_no_conflict}
 use Rattle.perm_core.proofs.Progress.NextEvents.{has_next}
 use Rattle.perm_core.proofs.OpeningPicture.{opens_with_picture}
 use Rattle.perm_core.proofs.Serial.Needs.{runs-keep}

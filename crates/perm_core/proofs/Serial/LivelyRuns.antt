@@ -6,7 +6,7 @@ use Rattle.perm_meaning.specs.Machine.{Leaf, Fork, Way, Here, GoL, GoR, final, o
 use Rattle.perm_meaning.specs.Effects.{Tick}
 use Rattle.perm_meaning.specs.NamedHeap.{Branch, Final, Held, Op, State, Task, memory, find}
 use Rattle.perm_meaning.specs.Steps.{Answer, Found, Refused, Missing, within, alone, careful, granted, answered, asked, asked_with_care, leftmost, leftmost_of}
-use Rattle.perm_meaning.specs.Outcome.{RanFull, outcome, opening_state}
+use Rattle.perm_meaning.specs.Outcome.{RanFull, RanStuck, outcome, opening_state}
 use Rattle.perm_meaning.proofs.Leads.{some_inj, none_some, then_some}
 use Rattle.perm_meaning.proofs.MovesAndCopies.RunsBack.{IsLively, has_ended, has_event, StaysLively}
 use Rattle.perm_core.specs.Core.{core, look, step, core_outcome}
@@ -14,8 +14,9 @@ use Rattle.perm_core.specs.Claims.{IsChecked, Opens, leaf_at, AllHaveNext}
 use Rattle.perm_core.specs.Regions.{Labels}
 use Rattle.perm_core.specs.Picture.{IsPicture}
 use Rattle.perm_core.specs.NextPicture.{first_picture, next_picture}
-use Rattle.perm_core.specs.Claims.{KeepsPicture}
-use Rattle.perm_core.proofs.Serial.LeftRuns.{left-first-comes, left-first-fills}
+use Rattle.perm_core.proofs.Serial.FreeRuns.{KeepsPictures}
+use Rattle.perm_core.proofs.Serial.LeftRuns.{left-first-comes, left-first-fills, meaning-unstuck}
+use Rattle.perm_core.proofs.Serial.ToldEnds.{left-first-told}
 use Rattle.perm_core.proofs.Progress.NextEvents.{has_next}
 use Rattle.perm_core.proofs.OpeningPicture.{opens_with_picture}
 
@@ -71,22 +72,26 @@ module _ (u : UnitCode) where
         go (Some f) q = has_ended q
         go None q = let x = next-event (IsAnswered s) (λ m. let z : ⊥ = cc m in z) s.task (λ w b h k. let n = next w b h k in looked s n.0 w n.1) q in has_event x.1 x.2
 
-    module _ (keeps : KeepsPicture u limit) (is : IsChecked u) where
+    module _ (keeps : KeepsPictures u) (is : IsChecked u) where
       -- so it is after each number of events, left first
       stays-lively : (k : ℕ) (labels : Labels) (s t : State) → IsPicture u labels s → alone (core u) (memory u) (within limit) k s ≡ Some t → IsLively u (within limit) t
       stays-lively zero labels s t picture e = subst (λ z. IsLively u (within limit) z) (some_inj e) (picture-lively labels s is picture)
       stays-lively (suc k) labels s t picture e =
           let x = then_some (careful (core u) (memory u) (within limit) s (leftmost s.task)) (alone (core u) (memory u) (within limit) k) t e in
-          stays-lively k (next_picture u limit labels s (leftmost s.task)) x.0 t (keeps labels s x.0 (leftmost s.task) is picture (careful-steps s x.0 (leftmost s.task) x.1)) x.2
+          stays-lively k (next_picture u limit labels s (leftmost s.task)) x.0 t (keeps limit labels s x.0 (leftmost s.task) is picture (careful-steps s x.0 (leftmost s.task) x.1)) x.2
 
       -- the core of a checked unit is never stuck, left first
       pub left-first-lively : (input : List ℤ) (turns : ℕ) (r : Routine) → Opens u limit input r → StaysLively u (within limit) (opening_state u input turns r)
       left-first-lively input turns r o k t e = stays-lively k first_picture (opening_state u input turns r) t (opens_with_picture u limit input turns r is o) e
 
+      -- nor is its meaning
+      pub picture-unstuck : (input : List ℤ) (turns : ℕ) (r : Routine) → Opens u limit input r → outcome u input turns limit ≢ RanStuck
+      picture-unstuck input turns r o = meaning-unstuck u limit input turns r is o (left-first-lively input turns r o) (left-first-told u is keeps limit input turns r o)
+
       -- it comes to the end that the meaning says
       pub picture-comes : (input : List ℤ) (turns : ℕ) (r : Routine) → Opens u limit input r → outcome u input turns limit ≢ RanFull
           → (n : ℕ) × (s : State) × (alone (core u) (memory u) (within limit) n (opening_state u input turns r) ≡ Some s) × (core_outcome turns s ≡ Some (outcome u input turns limit))
-      picture-comes input turns r o full = left-first-comes u limit input turns r is o (left-first-lively input turns r o) full
+      picture-comes input turns r o full = left-first-comes u limit input turns r is o (left-first-lively input turns r o) (left-first-told u is keeps limit input turns r o) full
 
       -- or to the refused allocation, where the heap doesn't hold the run
       pub picture-fills : (input : List ℤ) (turns : ℕ) (r : Routine) → Opens u limit input r → outcome u input turns limit ≡ RanFull

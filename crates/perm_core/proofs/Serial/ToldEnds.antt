@@ -1,11 +1,11 @@
--- Where each event keeps the picture, a run that has ended tells a report, or that the heap is full: neither it nor the meaning is ever stuck.
+-- Where each event keeps the picture, a run that has ended tells a report, or that the heap is full: it is never told as stuck.
 use Rattle.std.proofs.Common.{◌≡◌, ◌≢◌, ℕ, zero, suc, true, Option, Some, None, List, [], ◌∷◌, sym, ap, subst, ◌∙◌}
 use Rattle.std.specs.Prelude.{ℤ}
 use Rattle.perm_tree.specs.Code.{Code, End, Give, Return, Do, If, While, Par, Recover, Routine, UnitCode}
 use Rattle.perm_meaning.specs.Machine.{Frame, Trapped, NoTurns, NoRoom, Close, Returning, Failing, Leaf, Fork, Way, Fine, GaveBack, Failed, over, stage_by_turns, stage_by_code, stage_from, final}
 use Rattle.perm_meaning.specs.NamedHeap.{Heap, Held, Final, Own, State, Task, memory}
-use Rattle.perm_meaning.specs.Outcome.{RanStuck, outcome, reported, opening_state}
-use Rattle.perm_meaning.specs.Steps.{runs, within, alone}
+use Rattle.perm_meaning.specs.Outcome.{RanStuck, reported, opening_state}
+use Rattle.perm_meaning.specs.Steps.{within, alone}
 use Rattle.perm_meaning.proofs.Leads.{some_inj, none_some}
 use Rattle.perm_meaning.proofs.SameName.{eq_itself}
 use Rattle.perm_core.specs.Core.{core, step, told_of, core_outcome}
@@ -20,7 +20,6 @@ use Rattle.perm_core.proofs.KeepsPicture.Order.Sides.{root-keeps}
 use Rattle.perm_core.proofs.Serial.Needs.{runs-keep}
 use Rattle.perm_core.proofs.Serial.FreeRuns.{KeepsPictures, HasPicture, pictured-next}
 use Rattle.perm_core.proofs.Serial.LeftFirst.{alone-listed}
-use Rattle.perm_core.proofs.Serial.LeftThenRight.{SomeEndsSo, ended}
 use Rattle.perm_core.proofs.Serial.NumberReturned.{IsNumber, ReturnsNumber, RootReturnsNumber, keeps-number}
 
 -- an end that is told
@@ -64,7 +63,7 @@ module _ (u : UnitCode) where
     pub stands : stands_in u.run s.task ≡ true
     pub number : RootReturnsNumber s.task
 
-  pub runs-told : (turns : ℕ) (s : State) (f : Final) → RunsRun s → final s.task ≡ Some f → core_outcome turns s ≢ Some RanStuck
+  runs-told : (turns : ℕ) (s : State) (f : Final) → RunsRun s → final s.task ≡ Some f → core_outcome turns s ≢ Some RanStuck
   runs-told turns s f is over e = told-unstuck turns f s.heap (root-told s.task f is.picture.1.orderly.ends is.number over) (some_inj (sym (ap (λ z. told_of turns s z) over) ∙ e))
 
   module _ (checked : IsChecked u) (keeps : KeepsPictures u) (limit : ℕ) where
@@ -78,21 +77,12 @@ module _ (u : UnitCode) where
           number = keeps-number u checked is.picture.0 s.heap is.picture.1.orderly.goes.0 x.op x.told w s.task t.task (root-node u is.picture.0 s is.picture.1) is.stands is.number event;
         }
 
-    -- an ended run from the opening is told
-    module _ (input : List ℤ) (turns : ℕ) (r : Routine) (opens : Opens u limit input r) where
-      pub reaches-told : (ws : List Way) (t : State) (f : Final) → runs (step u limit) ws (opening_state u input turns r) ≡ Some t → final t.task ≡ Some f → core_outcome turns t ≢ Some RanStuck
-      reaches-told ws t f run over = runs-told turns t f (runs-keep (step u limit) RunsRun runs-next ws (opening_state u input turns r) t begins run) over
-        where
-          begins : RunsRun (opening_state u input turns r)
-          begins = record { picture = (first_picture, opens_with_picture u limit input turns r checked opens); stands = eq_itself u.run; number = tt }
-
-      -- so is one with the leftmost node first
-      pub left-first-told : (n : ℕ) (t : State) (f : Final) → alone (core u) (memory u) (within limit) n (opening_state u input turns r) ≡ Some t → final t.task ≡ Some f → core_outcome turns t ≢ Some RanStuck
-      left-first-told n t f run over = let l = alone-listed u limit n (opening_state u input turns r) t run in reaches-told l.0 t f l.1 over
-
-      -- nor is the meaning stuck, where some complete list ends as it says
-      pub meaning-unstuck : SomeEndsSo u limit input turns → outcome u input turns limit ≢ RanStuck
-      meaning-unstuck some e =
-          let x = some r checked opens in
-          let g = ended u limit input turns x.end (outcome u input turns limit) x.told in
-          reaches-told x.events x.end g.0 x.run g.1 (x.told ∙ ap (λ z. Some z) e)
+    -- left first, an ended run from the opening is told
+    pub left-first-told : (input : List ℤ) (turns : ℕ) (r : Routine) → Opens u limit input r
+        → (n : ℕ) (t : State) (f : Final) → alone (core u) (memory u) (within limit) n (opening_state u input turns r) ≡ Some t → final t.task ≡ Some f → core_outcome turns t ≢ Some RanStuck
+    left-first-told input turns r opens n t f run over =
+        let l = alone-listed u limit n (opening_state u input turns r) t run in
+        runs-told turns t f (runs-keep (step u limit) RunsRun runs-next l.0 (opening_state u input turns r) t begins l.1) over
+      where
+        begins : RunsRun (opening_state u input turns r)
+        begins = record { picture = (first_picture, opens_with_picture u limit input turns r checked opens); stands = eq_itself u.run; number = tt }
