@@ -168,7 +168,7 @@ module _ {V G O : Type 0} (m : Machine V G O) where
             let less : suc (weight next.task) ≤ weight s.task = step-less s next w q in
             omega arith
 
-pub few_events : (u : UnitCode) (limit : ℕ) (input : List ℤ) (turns : ℕ) → FewEvents u limit input turns
-few_events u limit input turns r ws (t, run) =
+pub few-events : (u : UnitCode) (limit : ℕ) (input : List ℤ) (turns : ℕ) → FewEvents u limit input turns
+few-events u limit input turns r ws (t, run) =
     let less : length ws + weight t.task ≤ 2 * turns = runs-less (core u) (memory u) (within limit) ws (opening_state u input turns r) t run in
     omega arith

@@ -191,5 +191,5 @@ module _ (u : UnitCode) (limit : ℕ) (input : List ℤ) (turns : ℕ) (r : Rout
         };
       }
 
-pub opens_with_picture : (u : UnitCode) (limit : ℕ) (input : List ℤ) (turns : ℕ) → OpensWithPicture u limit input turns
-opens_with_picture u limit input turns r checked opens = first-picture u limit input turns r checked opens
+pub opens-with-picture : (u : UnitCode) (limit : ℕ) (input : List ℤ) (turns : ℕ) → OpensWithPicture u limit input turns
+opens-with-picture u limit input turns r checked opens = first-picture u limit input turns r checked opens

@@ -11,7 +11,7 @@ use Rattle.perm_core.specs.Regions.{Labels}
 use Rattle.perm_core.specs.Picture.{IsPicture}
 use Rattle.perm_core.specs.NextPicture.{first_picture, next_picture}
 use Rattle.perm_core.specs.Claims.{IsChecked, ReachesPicture}
-use Rattle.perm_core.proofs.OpeningPicture.{opens_with_picture}
+use Rattle.perm_core.proofs.OpeningPicture.{opens-with-picture}
 use Rattle.perm_core.proofs.KeepsPicture.PictureEvents.{keeps-picture}
 
 module _ (u : UnitCode) (limit : ℕ) where
@@ -25,4 +25,4 @@ module _ (u : UnitCode) (limit : ℕ) where
       stepped rest (Some r) here q = rest r here q
 
   pub reaches-picture : (input : List ℤ) (turns : ℕ) → ReachesPicture u limit input turns
-  reaches-picture input turns r ws t checked opens e = runs-keep checked first_picture ws (opening_state u input turns r) t (opens_with_picture u limit input turns r checked opens) e
+  reaches-picture input turns r ws t checked opens e = runs-keep checked first_picture ws (opening_state u input turns r) t (opens-with-picture u limit input turns r checked opens) e

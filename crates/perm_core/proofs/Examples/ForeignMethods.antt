@@ -35,8 +35,8 @@ accepted : IsAccepted u
 accepted = ((_, (refl, (refl, refl))), ((_, (refl, refl)), tt))
 
 -- its code isn't whole
-pub foreign-not_whole : IsWhole u → ⊥
-foreign-not_whole w = let e = (w.routines 0 run refl).calls in let no : false ≡ true = e in cc
+pub foreign-not-whole : IsWhole u → ⊥
+foreign-not-whole w = let e = (w.routines 0 run refl).calls in let no : false ≡ true = e in cc
 
 abbrev start : State
 start = opening_state u [] 10 run

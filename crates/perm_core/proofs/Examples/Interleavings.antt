@@ -28,47 +28,47 @@ abbrev right_then_left : List Way
 right_then_left = Here ∷ Here ∷ Here ∷ GoR Here ∷ GoL Here ∷ Here ∷ Here ∷ Here ∷ []
 
 -- both are complete, and end in one state
-one_state : after_events left_then_right ≡ after_events right_then_left
-one_state = refl
+one-state : after_events left_then_right ≡ after_events right_then_left
+one-state = refl
 
 complete : shown_if p11 (option_and_then (core_outcome 7) (after_events left_then_right)) ≡ Shows (IsDone (pos 0)) (pos 3 ∷ []) 7 2
 complete = refl
 
 -- a join isn't allowed before both sides have ended
-too_early : after_events (Here ∷ Here ∷ Here ∷ GoL Here ∷ Here ∷ []) ≡ None
-too_early = refl
+too-early : after_events (Here ∷ Here ∷ Here ∷ GoL Here ∷ Here ∷ []) ≡ None
+too-early = refl
 
 -- ---------- runs under a policy ----------
 abbrev driven : Source → ℕ → List ℤ → ℕ → Policy → Shown
 driven s limit input turns p = shown_if s (outcome_under (code s) limit p 1000 input turns)
 
-two_fields : driven p1 100 [] 100 LeftFirst ≡ Shows (IsDone (pos 0)) (pos 7 ∷ []) 7 5
-two_fields = refl
+two-fields : driven p1 100 [] 100 LeftFirst ≡ Shows (IsDone (pos 0)) (pos 7 ∷ []) 7 5
+two-fields = refl
 
-six_turns : driven p11 100 [] 6 (InTurn true) ≡ Shows IsOutOfTurns (pos 3 ∷ []) 6 2
-six_turns = refl
+six-turns : driven p11 100 [] 6 (InTurn true) ≡ Shows IsOutOfTurns (pos 3 ∷ []) 6 2
+six-turns = refl
 
-four_turns : driven p11 100 [] 4 (InTurn false) ≡ Shows IsOutOfTurns [] 4 2
-four_turns = refl
+four-turns : driven p11 100 [] 4 (InTurn false) ≡ Shows IsOutOfTurns [] 4 2
+four-turns = refl
 
 -- the right side prints before the left one traps, and isn't told
-left_traps_first : driven p9 100 [] 100 LeftFirst ≡ Shows (TrapsAt DivideByZero (6, 7)) (pos 1 ∷ []) 5 2
-left_traps_first = refl
+left-traps-first : driven p9 100 [] 100 LeftFirst ≡ Shows (TrapsAt DivideByZero (6, 7)) (pos 1 ∷ []) 5 2
+left-traps-first = refl
 
-left_traps_last : driven p9 100 [] 100 RightFirst ≡ Shows (TrapsAt DivideByZero (6, 7)) (pos 1 ∷ []) 5 2
-left_traps_last = refl
+left-traps-last : driven p9 100 [] 100 RightFirst ≡ Shows (TrapsAt DivideByZero (6, 7)) (pos 1 ∷ []) 5 2
+left-traps-last = refl
 
-nine_words_left : driven p10 9 [] 100 LeftFirst ≡ ShowsFull
-nine_words_left = refl
+nine-words-left : driven p10 9 [] 100 LeftFirst ≡ ShowsFull
+nine-words-left = refl
 
-nine_words_right : driven p10 9 [] 100 RightFirst ≡ ShowsFull
-nine_words_right = refl
+nine-words-right : driven p10 9 [] 100 RightFirst ≡ ShowsFull
+nine-words-right = refl
 
-child_bumped : driven p4 100 [] 100 RightFirst ≡ Shows (IsDone (pos 0)) (pos 1 ∷ []) 13 4
-child_bumped = refl
+child-bumped : driven p4 100 [] 100 RightFirst ≡ Shows (IsDone (pos 0)) (pos 1 ∷ []) 13 4
+child-bumped = refl
 
-tree_summed : driven (p3 2) 1000 (pos 7 ∷ pos 8 ∷ pos 9 ∷ pos 10 ∷ []) 1000 (InTurn true) ≡ Shows (IsDone (pos 0)) (pos 34 ∷ []) 120 26
-tree_summed = refl
+tree-summed : driven (p3 2) 1000 (pos 7 ∷ pos 8 ∷ pos 9 ∷ pos 10 ∷ []) 1000 (InTurn true) ≡ Shows (IsDone (pos 0)) (pos 34 ∷ []) 120 26
+tree-summed = refl
 
-tree_summed_right : driven (p3 2) 1000 (pos 7 ∷ pos 8 ∷ pos 9 ∷ pos 10 ∷ []) 1000 RightFirst ≡ Shows (IsDone (pos 0)) (pos 34 ∷ []) 120 26
-tree_summed_right = refl
+tree-summed-right : driven (p3 2) 1000 (pos 7 ∷ pos 8 ∷ pos 9 ∷ pos 10 ∷ []) 1000 RightFirst ≡ Shows (IsDone (pos 0)) (pos 34 ∷ []) 120 26
+tree-summed-right = refl

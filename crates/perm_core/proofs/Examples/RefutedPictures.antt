@@ -288,25 +288,25 @@ abbrev scoped : Routine → Bool
 scoped r = is_scoped (context u r) r.code (first_live r)
 
 -- a value stays in a variable that one branch of an `if` assigned
-if_before_recover : scoped (with_code (Ref Isolated (Class 0) ∷ []) (If here (BoolLit true) [] (Do here (NewObject 2 0) End) [] End (Recover here 3 [] (0 ∷ []) (Do here (NewObject 4 0) (Give here 4 3)) back))) ≡ false
-if_before_recover = refl
+if-before-recover : scoped (with_code (Ref Isolated (Class 0) ∷ []) (If here (BoolLit true) [] (Do here (NewObject 2 0) End) [] End (Recover here 3 [] (0 ∷ []) (Do here (NewObject 4 0) (Give here 4 3)) back))) ≡ false
+if-before-recover = refl
 
 -- a recover block assigns an outer writable variable that it doesn't hide
-assigned_within : scoped (with_code (Ref Isolated (Class 0) ∷ []) (Recover here 3 [] (0 ∷ []) (Do here (NewObject 2 0) (Do here (NewObject 4 0) (Give here 4 3))) back)) ≡ false
-assigned_within = refl
+assigned-within : scoped (with_code (Ref Isolated (Class 0) ∷ []) (Recover here 3 [] (0 ∷ []) (Do here (NewObject 2 0) (Do here (NewObject 4 0) (Give here 4 3))) back)) ≡ false
+assigned-within = refl
 
 -- so two lists of events ended differently
-shared_between : scoped (with_code (Ref Writable (Class 0) ∷ Long ∷ []) (Recover here 3 (4 ∷ []) (0 ∷ []) (Do here (NewObject 4 0) (Do here (Assign 2 (Expression (Local 4))) (Give here 4 3))) back)) ≡ false
-shared_between = refl
+shared-between : scoped (with_code (Ref Writable (Class 0) ∷ Long ∷ []) (Recover here 3 (4 ∷ []) (0 ∷ []) (Do here (NewObject 4 0) (Do here (Assign 2 (Expression (Local 4))) (Give here 4 3))) back)) ≡ false
+shared-between = refl
 
 -- with all that is tied hidden and the assigned variable within, it is right
-all_hidden : scoped (with_code (Ref Writable (Class 0) ∷ Long ∷ []) (Recover here 3 (4 ∷ []) (0 ∷ 2 ∷ []) (Do here (NewObject 4 0) (Give here 4 3)) back)) ≡ true
-all_hidden = refl
+all-hidden : scoped (with_code (Ref Writable (Class 0) ∷ Long ∷ []) (Recover here 3 (4 ∷ []) (0 ∷ 2 ∷ []) (Do here (NewObject 4 0) (Give here 4 3)) back)) ≡ true
+all-hidden = refl
 
 -- a recover block gives to another variable than the one that takes its value, which may be hidden outside
-given_elsewhere : scoped (with_code (Ref Writable (Class 0) ∷ Long ∷ []) (Recover here 3 (4 ∷ []) (0 ∷ 2 ∷ []) (Do here (NewObject 4 0) (Give here 4 2)) back)) ≡ false
-given_elsewhere = refl
+given-elsewhere : scoped (with_code (Ref Writable (Class 0) ∷ Long ∷ []) (Recover here 3 (4 ∷ []) (0 ∷ 2 ∷ []) (Do here (NewObject 4 0) (Give here 4 2)) back)) ≡ false
+given-elsewhere = refl
 
 -- a recover block declares what it hides
-hidden_own : scoped (with_code (Ref Writable (Class 0) ∷ Long ∷ []) (Recover here 3 (4 ∷ []) (0 ∷ 2 ∷ 4 ∷ []) (Do here (NewObject 4 0) (Give here 4 3)) back)) ≡ false
-hidden_own = refl
+hidden-own : scoped (with_code (Ref Writable (Class 0) ∷ Long ∷ []) (Recover here 3 (4 ∷ []) (0 ∷ 2 ∷ 4 ∷ []) (Do here (NewObject 4 0) (Give here 4 3)) back)) ≡ false
+hidden-own = refl

@@ -15,14 +15,14 @@ abbrev short_of_words : Source → Policy → List ℕ → ℕ
 short_of_words s p [] = 0
 short_of_words s p (n ∷ ns) = first_bad s n [] 1000 p + short_of_words s p ns
 
-moving_few_turns : short_of_turns moving_regions (InTurn true) (5 ∷ 9 ∷ 13 ∷ 17 ∷ 25 ∷ 27 ∷ 36 ∷ 41 ∷ 53 ∷ 60 ∷ []) ≡ 0
-moving_few_turns = refl
+moving-few-turns : short_of_turns moving_regions (InTurn true) (5 ∷ 9 ∷ 13 ∷ 17 ∷ 25 ∷ 27 ∷ 36 ∷ 41 ∷ 53 ∷ 60 ∷ []) ≡ 0
+moving-few-turns = refl
 
-moving_few_words : short_of_words moving_regions RightFirst (7 ∷ 12 ∷ 22 ∷ 27 ∷ 37 ∷ 42 ∷ 47 ∷ []) ≡ 0
-moving_few_words = refl
+moving-few-words : short_of_words moving_regions RightFirst (7 ∷ 12 ∷ 22 ∷ 27 ∷ 37 ∷ 42 ∷ 47 ∷ []) ≡ 0
+moving-few-words = refl
 
-failing_few_turns : short_of_turns failing_regions LeftFirst (6 ∷ 8 ∷ 10 ∷ 12 ∷ 15 ∷ 17 ∷ 20 ∷ 24 ∷ 30 ∷ []) ≡ 0
-failing_few_turns = refl
+failing-few-turns : short_of_turns failing_regions LeftFirst (6 ∷ 8 ∷ 10 ∷ 12 ∷ 15 ∷ 17 ∷ 20 ∷ 24 ∷ 30 ∷ []) ≡ 0
+failing-few-turns = refl
 
-failing_few_words : short_of_words failing_regions RightFirst (7 ∷ 12 ∷ 16 ∷ []) ≡ 0
-failing_few_words = refl
+failing-few-words : short_of_words failing_regions RightFirst (7 ∷ 12 ∷ 16 ∷ []) ≡ 0
+failing-few-words = refl

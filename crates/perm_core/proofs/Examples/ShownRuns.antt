@@ -117,23 +117,23 @@ unshown_from u input turns limit p (Some r) =
 abbrev unshown_in : Source → List ℤ → ℕ → ℕ → Policy → ℕ
 unshown_in s input turns limit p = unshown_from (code s) input turns limit p (slice_get (code s).routines (code s).run)
 
-list_summed : unshown_in p2 (pos 5 ∷ pos 6 ∷ []) 1000 200 LeftFirst ≡ 0
-list_summed = refl
+list-summed : unshown_in p2 (pos 5 ∷ pos 6 ∷ []) 1000 200 LeftFirst ≡ 0
+list-summed = refl
 
 ring : unshown_in p12 [] 1000 200 LeftFirst ≡ 0
 ring = refl
 
-child_bumped : unshown_in p4 [] 1000 200 RightFirst ≡ 0
-child_bumped = refl
+child-bumped : unshown_in p4 [] 1000 200 RightFirst ≡ 0
+child-bumped = refl
 
-tree_summed : unshown_in (p3 1) (pos 7 ∷ pos 8 ∷ []) 1000 200 (InTurn true) ≡ 0
-tree_summed = refl
+tree-summed : unshown_in (p3 1) (pos 7 ∷ pos 8 ∷ []) 1000 200 (InTurn true) ≡ 0
+tree-summed = refl
 
 moving : unshown_in moving_regions [] 1000 200 (InTurn false) ≡ 0
 moving = refl
 
-moving_few_words : unshown_in moving_regions [] 1000 40 RightFirst ≡ 0
-moving_few_words = refl
+moving-few-words : unshown_in moving_regions [] 1000 40 RightFirst ≡ 0
+moving-few-words = refl
 
 failing : unshown_in failing_regions [] 1000 200 RightFirst ≡ 0
 failing = refl

@@ -56,32 +56,32 @@ words_from (suc n) i word = word i ∷ words_from n (suc i) word
 abbrev left_words : Source → List ℤ → ℕ → Policy → List ℕ
 left_words s input n p = from_routine (code s) input 1000 1000 p (slice_get (code s).routines (code s).run) (λ t. words_from n 0 t.heap.word) []
 
-list_summed : word_run p2 (pos 5 ∷ pos 6 ∷ pos 7 ∷ []) 100 100 LeftFirst ≡ Gives 18 (pos 18 ∷ []) 52 10
-list_summed = refl
+list-summed : word_run p2 (pos 5 ∷ pos 6 ∷ pos 7 ∷ []) 100 100 LeftFirst ≡ Gives 18 (pos 18 ∷ []) 52 10
+list-summed = refl
 
-child_bumped : word_run p4 [] 100 100 RightFirst ≡ Gives 0 (pos 1 ∷ []) 87 4
-child_bumped = refl
+child-bumped : word_run p4 [] 100 100 RightFirst ≡ Gives 0 (pos 1 ∷ []) 87 4
+child-bumped = refl
 
-six_turns : word_run p11 [] 6 100 (InTurn true) ≡ Fails NoTurns (pos 3 ∷ []) 0 2
-six_turns = refl
+six-turns : word_run p11 [] 6 100 (InTurn true) ≡ Fails NoTurns (pos 3 ∷ []) 0 2
+six-turns = refl
 
-tree_summed : word_run (p3 1) (pos 7 ∷ pos 8 ∷ []) 100 100 (InTurn false) ≡ Gives 0 (pos 15 ∷ []) 50 12
-tree_summed = refl
+tree-summed : word_run (p3 1) (pos 7 ∷ pos 8 ∷ []) 100 100 (InTurn false) ≡ Gives 0 (pos 15 ∷ []) 50 12
+tree-summed = refl
 
 -- the empty input, Main, the leaf, and the two objects of the ring
-ring_words : left_words p12 [] 7 LeftFirst ≡ 0 ∷ 4 ∷ 9 ∷ 6 ∷ 3 ∷ 4 ∷ 3 ∷ []
-ring_words = refl
+ring-words : left_words p12 [] 7 LeftFirst ≡ 0 ∷ 4 ∷ 9 ∷ 6 ∷ 3 ∷ 4 ∷ 3 ∷ []
+ring-words = refl
 
-moving_left : word_run moving_regions [] 1000 200 LeftFirst ≡ Gives 4 [] 930 57
-moving_left = refl
+moving-left : word_run moving_regions [] 1000 200 LeftFirst ≡ Gives 4 [] 930 57
+moving-left = refl
 
-moving_in_turn : word_run moving_regions [] 1000 200 (InTurn false) ≡ Gives 4 [] 930 57
-moving_in_turn = refl
+moving-in-turn : word_run moving_regions [] 1000 200 (InTurn false) ≡ Gives 4 [] 930 57
+moving-in-turn = refl
 
 -- the line and the column of the trap in which a run on words ends, and the turns left
 abbrev trap_place : Source → WordEnd → (ℕ × ℕ) × ℕ
 trap_place s (Fails (Trapped k at) printed left given) = (place_in (text_of s) at.start, left)
 trap_place s _ = ((0, 0), 0)
 
-failing_right : trap_place failing_regions (word_run failing_regions [] 1000 200 RightFirst) ≡ ((54, 7), 978)
-failing_right = refl
+failing-right : trap_place failing_regions (word_run failing_regions [] 1000 200 RightFirst) ≡ ((54, 7), 978)
+failing-right = refl

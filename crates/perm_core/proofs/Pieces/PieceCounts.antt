@@ -119,25 +119,25 @@ module _ {V G O : Type 0} (m : Machine V G O) where
   joined-alone b (Failed e t p) = (_, refl)
 
   -- ---------- the law ----------
-  pub numbers_of_pieces : NumbersOfPieces m
-  numbers_of_pieces h i = let a = feet-sum i h AtRoot [] in let b = parents-sum i h AtRoot [] in (omega arith, omega arith)
+  pub numbers-of-pieces : NumbersOfPieces m
+  numbers-of-pieces h i = let a = feet-sum i h AtRoot [] in let b = parents-sum i h AtRoot [] in (omega arith, omega arith)
 
-  pub turns_of_pieces : TurnsOfPieces m
-  turns_of_pieces h = turns-sum h AtRoot []
+  pub turns-of-pieces : TurnsOfPieces m
+  turns-of-pieces h = turns-sum h AtRoot []
 
-  pub takes_turns : TakesTurns m
-  takes_turns x o v e = ap (λ t. turns_in t + turn_at (lone_way x) (lone_task x)) (lone-event m x v o e) ∙ event-turns (lone_way x) (lone_task x) o v e
+  pub takes-turns : TakesTurns m
+  takes-turns x o v e = ap (λ t. turns_in t + turn_at (lone_way x) (lone_task x)) (lone-event m x v o e) ∙ event-turns (lone_way x) (lone_task x) o v e
 
-  pub split_takes : SplitTakes m
-  split_takes b c l r p o v e f = ap (λ t. suc (turns_in t)) (sym f) ∙ leaf-turns b (stage b) o v refl e
+  pub split-takes : SplitTakes m
+  split-takes b c l r p o v e f = ap (λ t. suc (turns_in t)) (sym f) ∙ leaf-turns b (stage b) o v refl e
 
-  pub join_returns : JoinReturns m
-  join_returns b l r p x y e f =
+  pub join-returns : JoinReturns m
+  join-returns b l r p x y e f =
       let same : turns_in (lone_task (lone_of (resumed m b (join_of m b p x y)))) ≡ turns_in (resumed m b (join_of m b p x y)) = ap turns_in (joined-held m b (join_of m b p x y)) in
       let both = joined-turns b p x y in
       let first : l.turns ≡ turns_of x = final-turns (Leaf l) x e in
       let second : r.turns ≡ turns_of y = final-turns (Leaf r) y f in
       omega arith
 
-  pub asks_at_leaf : AsksAtLeaf m
-  asks_at_leaf x o e n = asks-leaf (lone_way x) (lone_task x) o e n
+  pub asks-at-leaf : AsksAtLeaf m
+  asks-at-leaf x o e n = asks-leaf (lone_way x) (lone_task x) o e n

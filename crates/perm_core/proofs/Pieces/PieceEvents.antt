@@ -130,8 +130,8 @@ module _ {V G O : Type 0} (m : Machine V G O) where
           }
 
   -- ---------- from pieces to the tree ----------
-  pub turn_of_piece : TurnOfPiece m
-  turn_of_piece h x rest o once over q e = (
+  pub turn-of-piece : TurnOfPiece m
+  turn-of-piece h x rest o once over q e = (
     at_hole c (lone_way x.own),
     subst (λ z. ChangesOne m h (at_hole c (lone_way x.own)) o x z) (sym s.others)
         (subst (λ z. ChangesOne m h (at_hole c (lone_way x.own)) o z (around c)) (λ i. piece m (s.foot_is i) (s.parents_are i) x.own)
@@ -145,8 +145,8 @@ module _ {V G O : Type 0} (m : Machine V G O) where
       c : Round V G
       c = s.round
 
-  pub split_of_piece : SplitOfPiece m
-  split_of_piece h foot up b by l r p rest o v n once over q e f new = (
+  pub split-of-piece : SplitOfPiece m
+  split-of-piece h foot up b by l r p rest o v n once over q e f new = (
     at_hole c Here,
     subst (λ z. SplitsOne m h (at_hole c Here) o v foot up b parent l r z) (sym s.others)
         (subst (λ z. SplitsOne m h (at_hole c Here) o v foot z b parent l r (around c)) s.parents_are
@@ -164,8 +164,8 @@ module _ {V G O : Type 0} (m : Machine V G O) where
       parent : Numbered V G
       parent = record { branch = by; blocks = p; number = n }
 
-  pub join_of_pieces : JoinOfPieces m
-  join_of_pieces h n foot up l r x y rest once over sides e f = (
+  pub join-of-pieces : JoinOfPieces m
+  join-of-pieces h n foot up l r x y rest once over sides e f = (
     at_hole c Here,
     subst (λ z. JoinsTwo m h (at_hole c Here) n foot up l r x y z) (sym s.others)
         (subst (λ z. JoinsTwo m h (at_hole c Here) n foot z l r x y (around c)) s.parents_are
@@ -216,8 +216,8 @@ module _ {V G O : Type 0} (m : Machine V G O) where
       ends : (f : Final V) × (g : Final V) × (final {G = G} (Leaf a.left) ≡ Some f) × (final {G = G} (Leaf a.right) ≡ Some g)
       ends = join-sides m (Leaf a.left) (Leaf a.right) a.parent.branch a.parent.blocks o (sym (look-plug m c old Here) ∙ (λ i. look m (sym a.way i) (held_task (sym a.is i))) ∙ e)
 
-  pub event_of_pieces : EventOfPieces m
-  event_of_pieces h w o once over e = go (each-event m h w o over e)
+  pub event-of-pieces : EventOfPieces m
+  event-of-pieces h w o once over e = go (each-event m h w o over e)
     where
       go : AtHolder h w ⊎ (AtJoin h w ⊎ IsAsideIn h w) → OfOne m h w o ⊎ (OfTwo m h w ⊎ IsAsideIn h w)
       go (inl a) = inl (of-one h w o once over e a)

@@ -11,8 +11,8 @@ use Rattle.perm_core.proofs.Pieces.Holes.{Round, Hole, OnLeft, OnRight, plug, fo
 abbrev pub right_of : ℕ → Foot
 right_of n = OnRightSide (Some n)
 
-same_number : {n k : ℕ} → right_of n ≡ right_of k → n ≡ k
-same_number e = cc
+same-number : {n k : ℕ} → right_of n ≡ right_of k → n ≡ k
+same-number e = cc
 
 module _ {V G : Type 0} where
   -- the stem of the piece ends at the right side of one of these numbers
@@ -116,14 +116,14 @@ module _ {V G : Type 0} where
     same_before : before foot up c ≡ before foot up outer
     same_behind : behind foot up c ≡ cut (right_of w.number) [] right ++ behind foot up outer
 
-  first_same : {w v : Numbered V G} {a b : List (Numbered V G)} → w ∷ a ≡ v ∷ b → w ≡ v
-  first_same e = cc
+  first-same : {w v : Numbered V G} {a b : List (Numbered V G)} → w ∷ a ≡ v ∷ b → w ≡ v
+  first-same e = cc
 
-  rest_same : {w v : Numbered V G} {a b : List (Numbered V G)} → w ∷ a ≡ v ∷ b → a ≡ b
-  rest_same e = cc
+  rest-same : {w v : Numbered V G} {a b : List (Numbered V G)} → w ∷ a ≡ v ∷ b → a ≡ b
+  rest-same e = cc
 
-  just_above : (foot : Foot) (up : List (Numbered V G)) (w : Numbered V G) (r : NumberedTree V G) (parents : List (Numbered V G)) → up ≡ parents → Innermost foot up (OnLeft w Hole r) w parents
-  just_above foot up w r parents q =
+  just-above : (foot : Foot) (up : List (Numbered V G)) (w : Numbered V G) (r : NumberedTree V G) (parents : List (Numbered V G)) → up ≡ parents → Innermost foot up (OnLeft w Hole r) w parents
+  just-above foot up w r parents q =
       record {
         outer = Hole;
         right = r;
@@ -152,7 +152,7 @@ module _ {V G : Type 0} where
           }
       go (inr q) =
           subst (λ c. Innermost foot up (OnLeft v c r) w parents) (sym q.0)
-          (subst (λ w. Innermost foot up (OnLeft v Hole r) w parents) (first_same q.1) (just_above foot up v r parents (rest_same q.1)))
+          (subst (λ w. Innermost foot up (OnLeft v Hole r) w parents) (first-same q.1) (just-above foot up v r parents (rest-same q.1)))
   innermost (OnRight v l c) foot up w parents e = inl (go (innermost c (right_of v.number) [] w parents e))
     where
       go : Innermost (right_of v.number) [] c w parents ⊎ ((c ≡ Hole) × ([] ≡ w ∷ parents)) → Innermost foot up (OnRight v l c) w parents
@@ -179,7 +179,7 @@ module _ {V G : Type 0} where
       p = record { foot = right_of n; parents = []; own = x }
 
       met : EndsRightOf p (numbers (Two w l r)) → ⊥
-      met h = free (subst (λ z. IsIn z (numbers (Two w l r))) (sym (same_number h.1)) h.2)
+      met h = free (subst (λ z. IsIn z (numbers (Two w l r))) (sym (same-number h.1)) h.2)
 
       left : EndsAt p (right_of n) 1 ⊎ EndsRightOf p (numbers l) → ⊥
       left (inl h) = let more = h.1 in omega (arith, more)
@@ -243,7 +243,7 @@ module _ {V G : Type 0} where
           widen k (inr q) = in-right k (numbers_before o) others (in-right k (numbers i.right) (numbers_behind o) q)
 
           around : EndsRightOf p (numbers_round o) → ⊥
-          around q = free (subst (λ y. IsIn y (numbers_before o ++ others)) (sym (same_number q.1)) (widen q.0 (in-split q.0 (numbers_before o) (numbers_behind o) q.2)))
+          around q = free (subst (λ y. IsIn y (numbers_before o ++ others)) (sym (same-number q.1)) (widen q.0 (in-split q.0 (numbers_before o) (numbers_behind o) q.2)))
 
           in_before : (right_of n.number ≡ AtRoot) ⊎ EndsRightOf p (numbers_round o) → ⊥
           in_before (inl e) = absurd (cc)

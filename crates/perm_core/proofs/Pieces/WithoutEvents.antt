@@ -57,8 +57,8 @@ module _ {V G O : Type 0} (m : Machine V G O) where
       p : Piece V G
       p = piece m (foot_at AtRoot c) (parents_at [] c) (turned x)
 
-  pub turns_right : TurnsRight m
-  turns_right h x rest over q =
+  pub turns-right : TurnsRight m
+  turns-right h x rest over q =
       subst (λ z. TurnsOne m h x z) (sym s.others)
       (subst (λ z. TurnsOne m h z (before AtRoot [] c ++ behind AtRoot [] c)) (λ i. piece m (s.foot_is i) (s.parents_are i) x.own)
       (subst (λ z. TurnsOne m z (piece m (foot_at AtRoot c) (parents_at [] c) x.own) (before AtRoot [] c ++ behind AtRoot [] c)) (sym s.is) (turns-one c x.own (subst (λ z. AllOver z) s.is over))))
@@ -70,10 +70,10 @@ module _ {V G O : Type 0} (m : Machine V G O) where
       c = s.round
 
   -- ---------- the root ----------
-  pub root_is_all : RootIsAll m
-  root_is_all (One y) x rest (inl q) = (ap (λ (z : Piece V G). One z.own) (sym q.0), sym q.1)
-  root_is_all (One y) x rest (inr q) = absurd q.2
-  root_is_all (Two w l r) x rest q = absurd (go (in-split p (cut AtRoot (w ∷ []) l) (cut (right_of w.number) [] r) (picks-in p (cut AtRoot [] (Two w l r)) rest q)))
+  pub root-is-all : RootIsAll m
+  root-is-all (One y) x rest (inl q) = (ap (λ (z : Piece V G). One z.own) (sym q.0), sym q.1)
+  root-is-all (One y) x rest (inr q) = absurd q.2
+  root-is-all (Two w l r) x rest q = absurd (go (in-split p (cut AtRoot (w ∷ []) l) (cut (right_of w.number) [] r) (picks-in p (cut AtRoot [] (Two w l r)) rest q)))
     where
       p : Piece V G
       p = piece m AtRoot [] x

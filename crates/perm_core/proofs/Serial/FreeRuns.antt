@@ -13,9 +13,9 @@ use Rattle.perm_core.specs.Picture.{IsPicture}
 use Rattle.perm_core.specs.NextPicture.{next_picture}
 use Rattle.perm_core.specs.Claims.{IsChecked, leaf_at}
 use Rattle.perm_core.specs.Claims.{KeepsPicture}
-use Rattle.perm_core.proofs.Commute.Conflicts.{either_order}
+use Rattle.perm_core.proofs.Commute.Conflicts.{events-commute}
 use Rattle.perm_core.proofs.FewEvents.{weight, step-less}
-use Rattle.perm_core.proofs.Progress.NextEvents.{has_next}
+use Rattle.perm_core.proofs.Progress.NextEvents.{has-next}
 use Rattle.perm_core.proofs.Serial.Confluence.{IsFinal, Commutes, confluent}
 use Rattle.perm_core.proofs.Serial.Needs.{GoesOrEnds, Terminates, Completed, runs-keep, complete, never-more}
 use Rattle.perm_core.proofs.Serial.FreeSteps.{no_limit, free_step, asks, roomy-unrefused, unrefused-free, free-grows}
@@ -85,7 +85,7 @@ pub record Complete (u : UnitCode) (limit : ℕ) (s : State) (ws : List Way) (t 
 
 module _ (u : UnitCode) (checked : IsChecked u) where
   node-next : (limit : ℕ) (s : State) (w : Way) → HasPicture u s → IsNext u w s.task → (t : State) × (step u limit s w ≡ Some t)
-  node-next limit s w picture (inl x) = has_next u limit picture.0 s checked picture.1 w x.branch x.there x.running
+  node-next limit s w picture (inl x) = has-next u limit picture.0 s checked picture.1 w x.branch x.there x.running
   node-next limit s w picture (inr e) = (_, ap (λ o. asked (core u) (memory u) (within limit) s w o) e)
 
   -- a state with a picture has ended, or its leftmost node has an event
@@ -129,7 +129,7 @@ module _ (u : UnitCode) (checked : IsChecked u) where
         let limit = (s.heap.given + asks u s p) + ((s.heap.given + asks u s q) + ((a.heap.given + asks u a q) + (b.heap.given + asks u b p))) in
         let a_q : a.heap.given + asks u a q ≤ limit = omega arith in
         let b_p : b.heap.given + asks u b p ≤ limit = omega arith in
-        let x = either_order u limit picture.0 s a b p q picture.1 differ (free-within limit s a p (omega arith) to_a) (free-within limit s b q (omega arith) to_b) (roomy-unrefused u limit a q a_q) (roomy-unrefused u limit b p b_p) in
+        let x = events-commute u limit picture.0 s a b p q picture.1 differ (free-within limit s a p (omega arith) to_a) (free-within limit s b q (omega arith) to_b) (roomy-unrefused u limit a q a_q) (roomy-unrefused u limit b p b_p) in
         (x.0, within-free limit a x.0 q a_q x.1, within-free limit b x.0 p b_p x.2)
 
     free-next : (s : State) → HasPicture u s → GoesOrEnds (free_step u) s

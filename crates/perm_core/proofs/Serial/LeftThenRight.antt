@@ -12,8 +12,8 @@ use Rattle.perm_core.specs.Core.{step, told_of, core_outcome}
 use Rattle.perm_core.specs.NextPicture.{first_picture}
 use Rattle.perm_core.specs.Claims.{IsChecked, Opens, AllHaveNext}
 use Rattle.perm_core.specs.Serial.{SomeRefused, EndsLeftThenRight, RefusedWhereFull}
-use Rattle.perm_core.proofs.Progress.NextEvents.{has_next}
-use Rattle.perm_core.proofs.OpeningPicture.{opens_with_picture}
+use Rattle.perm_core.proofs.Progress.NextEvents.{has-next}
+use Rattle.perm_core.proofs.OpeningPicture.{opens-with-picture}
 use Rattle.perm_core.proofs.Serial.Needs.{runs-keep}
 use Rattle.perm_core.proofs.Serial.FreeRuns.{KeepsPictures, HasPicture, Complete, pictured-next}
 use Rattle.perm_core.proofs.Serial.Refusals.{EndsFull, lacking-ends, refused-lacks, some-refused-or-not, unrefused-runs-free}
@@ -42,11 +42,11 @@ module _ (u : UnitCode) (limit : ℕ) (input : List ℤ) (turns : ℕ) where
 
   pub reaches-picture : KeepsPictures u → ReachesPicture
   reaches-picture keeps r ws t checked opens e =
-      runs-keep (step u limit) (HasPicture u) (pictured-next u checked keeps limit) ws (opening_state u input turns r) t (first_picture, opens_with_picture u limit input turns r checked opens) e
+      runs-keep (step u limit) (HasPicture u) (pictured-next u checked keeps limit) ws (opening_state u input turns r) t (first_picture, opens-with-picture u limit input turns r checked opens) e
 
   -- and no branch is stuck
   pub reaches-next : KeepsPictures u → (r : Routine) (ws : List Way) (t : State) → IsChecked u → Opens u limit input r → runs (step u limit) ws (opening_state u input turns r) ≡ Some t → AllHaveNext u limit t
-  reaches-next keeps r ws t checked opens e = let x = reaches-picture keeps r ws t checked opens e in has_next u limit x.0 t checked x.1
+  reaches-next keeps r ws t checked opens e = let x = reaches-picture keeps r ws t checked opens e in has-next u limit x.0 t checked x.1
 
   -- ---------- the claims ----------
   -- a complete list of events that ends as running left then right does

@@ -17,8 +17,8 @@ use Rattle.perm_core.specs.NextPicture.{first_picture, next_picture}
 use Rattle.perm_core.proofs.Serial.FreeRuns.{KeepsPictures}
 use Rattle.perm_core.proofs.Serial.LeftRuns.{left-first-comes, left-first-fills, meaning-unstuck}
 use Rattle.perm_core.proofs.Serial.ToldEnds.{left-first-told}
-use Rattle.perm_core.proofs.Progress.NextEvents.{has_next}
-use Rattle.perm_core.proofs.OpeningPicture.{opens_with_picture}
+use Rattle.perm_core.proofs.Progress.NextEvents.{has-next}
+use Rattle.perm_core.proofs.OpeningPicture.{opens-with-picture}
 
 module _ (u : UnitCode) where
   -- an event that asks what fulfils P
@@ -66,7 +66,7 @@ module _ (u : UnitCode) where
     picture-lively labels s is picture = go (final s.task) refl
       where
         next : AllHaveNext u limit s
-        next = has_next u limit labels s is picture
+        next = has-next u limit labels s is picture
 
         go : (f : Option Final) → final s.task ≡ f → IsLively u (within limit) s
         go (Some f) q = has_ended q
@@ -82,7 +82,7 @@ module _ (u : UnitCode) where
 
       -- the core of a checked unit is never stuck, left first
       pub left-first-lively : (input : List ℤ) (turns : ℕ) (r : Routine) → Opens u limit input r → StaysLively u (within limit) (opening_state u input turns r)
-      left-first-lively input turns r o k t e = stays-lively k first_picture (opening_state u input turns r) t (opens_with_picture u limit input turns r is o) e
+      left-first-lively input turns r o k t e = stays-lively k first_picture (opening_state u input turns r) t (opens-with-picture u limit input turns r is o) e
 
       -- nor is its meaning
       pub picture-unstuck : (input : List ℤ) (turns : ℕ) (r : Routine) → Opens u limit input r → outcome u input turns limit ≢ RanStuck

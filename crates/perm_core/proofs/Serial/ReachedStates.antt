@@ -9,7 +9,7 @@ use Rattle.perm_core.specs.Claims.{WordsDoNoMore}
 use Rattle.perm_core.specs.Reached.{IsReached, ReachesOpening, ReachesNext, ShowsPicture, TellsMeaning}
 use Rattle.perm_core.proofs.KeepsPicture.PictureEvents.{keeps-picture}
 use Rattle.perm_core.proofs.Sound.{reaches-picture}
-use Rattle.perm_core.proofs.WordsShown.{words_do_no_more}
+use Rattle.perm_core.proofs.WordsShown.{words-do-no-more}
 use Rattle.perm_core.proofs.Serial.LeftThenRight.{reaches-next}
 use Rattle.perm_core.proofs.Serial.Needs.{runs-append}
 use Rattle.perm_core.proofs.Serial.WordsEnd.{Shows, shows-runs, shows-start, words-end}
@@ -18,7 +18,7 @@ module _ (u : UnitCode) (limit : ℕ) (input : List ℤ) (turns : ℕ) where
   -- the core on words does nothing that the core on names doesn't do
   pub no-more-on-words : WordsDoNoMore u limit input turns
   no-more-on-words r checked opens ws s b t t' w run shown event =
-      words_do_no_more u limit input turns r opens ws s b t t' w run shown (reaches-next u limit input turns (λ n. keeps-picture u n) r ws s checked opens.opens run) event
+      words-do-no-more u limit input turns r opens ws s b t t' w run shown (reaches-next u limit input turns (λ n. keeps-picture u n) r ws s checked opens.opens run) event
 
   pub opening-reached : ReachesOpening u limit input turns
   opening-reached r checked opens = record { first = r; checked = checked; opens = opens; events = []; run = refl }

@@ -13,7 +13,7 @@ use Rattle.perm_core.specs.Endings.{ByReturn, branch_ends, tree_ends}
 use Rattle.perm_core.specs.Picture.{stands_in}
 use Rattle.perm_core.specs.NextPicture.{first_picture}
 use Rattle.perm_core.specs.Claims.{IsChecked, Opens}
-use Rattle.perm_core.proofs.OpeningPicture.{opens_with_picture}
+use Rattle.perm_core.proofs.OpeningPicture.{opens-with-picture}
 use Rattle.perm_core.proofs.KeepsPicture.Trees.NodePremises.{root-node}
 use Rattle.perm_core.proofs.KeepsPicture.Trees.TreeEvents.{is-step, step-event}
 use Rattle.perm_core.proofs.KeepsPicture.Order.Sides.{root-keeps}
@@ -85,4 +85,4 @@ module _ (u : UnitCode) where
         runs-told turns t f (runs-keep (step u limit) RunsRun runs-next l.0 (opening_state u input turns r) t begins l.1) over
       where
         begins : RunsRun (opening_state u input turns r)
-        begins = record { picture = (first_picture, opens_with_picture u limit input turns r checked opens); stands = eq_itself u.run; number = tt }
+        begins = record { picture = (first_picture, opens-with-picture u limit input turns r checked opens); stands = eq_itself u.run; number = tt }

@@ -23,7 +23,7 @@ use Rattle.perm_core.specs.WordCore as word_core
 use Rattle.perm_core.specs.Claims.{IsChecked, OpensOnWords}
 use Rattle.perm_core.specs.Serial.{IsToldOnWords, WordsEndLeftThenRight}
 use Rattle.perm_core.proofs.KeepsPicture.PictureEvents.{keeps-picture}
-use Rattle.perm_core.proofs.WordsShown.{words_do_no_more}
+use Rattle.perm_core.proofs.WordsShown.{words-do-no-more}
 use Rattle.perm_core.proofs.Serial.Needs.{runs-append}
 use Rattle.perm_core.proofs.Serial.Refusals.{EndsFull}
 use Rattle.perm_core.proofs.Serial.LeftThenRight.{reported-so, reaches-next}
@@ -59,7 +59,7 @@ module _ (u : UnitCode) (limit : ℕ) (input : List ℤ) (turns : ℕ) (r : Rout
   shows-next : (t t' : worded.State) (w : Way) → Shows t → word_core.step u limit t w ≡ Some t' → Shows t'
   shows-next t t' w x e =
       let all = reaches-next u limit input turns (λ limit. keeps-picture u limit) r x.events x.state checked opens.opens x.run in
-      let y = words_do_no_more u limit input turns r opens x.events x.state x.bases t t' w x.run x.shown all e in
+      let y = words-do-no-more u limit input turns r opens x.events x.state x.bases t t' w x.run x.shown all e in
       record {
         events = x.events ++ (w ∷ []);
         state = y.0;

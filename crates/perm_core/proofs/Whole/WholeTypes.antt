@@ -46,18 +46,18 @@ below-at n f (y ∷ ys) zero x below here = let same : y ≡ x = cc here in subs
 below-at n f (y ∷ ys) (suc at) x below here = below-at n f ys at x (below-parts n (f y) (flat_map f ys) below).1 here
 
 -- what holds of all elements of a list, and of the element that stands behind it, holds wherever it is read
-get_or-one_more : {A : Type 0} (P : A → Type 0) (d : A) (xs : List A) (x : A) → P d → ((at : ℕ) → P (get_or xs at d)) → P x → (at : ℕ) → P (get_or (xs ++ x ∷ []) at d)
-get_or-one_more P d [] x last all here zero = here
-get_or-one_more P d [] x last all here (suc at) = last
-get_or-one_more P d (y ∷ xs) x last all here zero = all zero
-get_or-one_more P d (y ∷ xs) x last all here (suc at) = get_or-one_more P d xs x last (λ k. all (suc k)) here at
+get_or-one-more : {A : Type 0} (P : A → Type 0) (d : A) (xs : List A) (x : A) → P d → ((at : ℕ) → P (get_or xs at d)) → P x → (at : ℕ) → P (get_or (xs ++ x ∷ []) at d)
+get_or-one-more P d [] x last all here zero = here
+get_or-one-more P d [] x last all here (suc at) = last
+get_or-one-more P d (y ∷ xs) x last all here zero = all zero
+get_or-one-more P d (y ∷ xs) x last all here (suc at) = get_or-one-more P d xs x last (λ k. all (suc k)) here at
 
 -- what each entry has that is made of entries that have it, all entries have
 pub entries_from-each : {X A : Type 0} (make : List A → X → A) (P : A → Type 0) (d : A) → P d → ((before : List A) (x : X) → ((at : ℕ) → P (get_or before at d)) → P (make before x))
     → (before : List A) (xs : List X) → ((at : ℕ) → P (get_or before at d)) → (at : ℕ) → P (get_or (entries_from make before xs) at d)
 entries_from-each make P d last step before [] all at = all at
 entries_from-each make P d last step before (x ∷ xs) all at =
-    entries_from-each make P d last step (before ++ make before x ∷ []) xs (get_or-one_more P d before (make before x) last all (step before x all)) at
+    entries_from-each make P d last step (before ++ make before x ∷ []) xs (get_or-one-more P d before (make before x) last all (step before x all)) at
 
 -- ---------- types ----------
 module _ (u : Tables) where
@@ -173,8 +173,8 @@ module _ (u : Tables) where
 
 -- ---------- units ----------
 -- the class of a table is there
-pub method-class_within : (u : Tables) (t : MethodTable) (d : Method) → method_of u.program t ≡ Some d → t.class < length u.program.classes
-method-class_within u t d is = let found = method-class u t d is in slice_get_within u.program.classes t.class found.0 found.1
+pub method-class-within : (u : Tables) (t : MethodTable) (d : Method) → method_of u.program t ≡ Some d → t.class < length u.program.classes
+method-class-within u t d is = let found = method-class u t d is in slice_get_within u.program.classes t.class found.0 found.1
 
 -- the table and the method of a routine of a resolved unit
 pub IsResolved-table : (u : Tables) (at : ℕ) (r : Routine) → IsResolved u → slice_get (code_of u).routines at ≡ Some r → HasTable u u.tables at r
@@ -190,7 +190,7 @@ table-known u t d is table =
     let methods = (below-parts n (decl_classes found.0.fields) (flat_map method_classes found.0.methods) members).1 in
     let «method» = below-at n method_classes found.0.methods t.«method» d methods found.2 in
     list_all-map (is_known_type (code_of u)) (λ (v : VarInfo). v.ty) t.vars
-    ∙ subst (KnownVars u) (sym table.1) (vars-known u p.stmts classes.1 t.class d (method-class_within u t d table.0) «method»)
+    ∙ subst (KnownVars u) (sym table.1) (vars-known u p.stmts classes.1 t.class d (method-class-within u t d table.0) «method»)
 
 -- the classes of the types of all variables are there
 pub IsResolved-known : (u : Tables) (at : ℕ) (r : Routine) → IsResolved u → slice_get (code_of u).routines at ≡ Some r → list_all (is_known_type (code_of u)) r.vars ≡ true

@@ -12,7 +12,7 @@ use Rattle.perm_tree.proofs.RunLaw.{HasRun, IsResolved-run, good_run-types}
 use Rattle.perm_core.specs.Whole.{IsWholeRoutine, IsRun, IsWhole}
 use Rattle.perm_rules.proofs.Pars.{IsResolved-scoped}
 use Rattle.perm_core.proofs.Whole.WholeCode.{IsResolved-returns, IsResolved-calls}
-use Rattle.perm_core.proofs.Whole.WholeTypes.{IsResolved-known, IsResolved-fields, method-class_within}
+use Rattle.perm_core.proofs.Whole.WholeTypes.{IsResolved-known, IsResolved-fields, method-class-within}
 
 routine-whole : (u : Tables) (at : ℕ) (r : Routine) → IsResolved u → slice_get (code_of u).routines at ≡ Some r → IsWholeRoutine (code_of u) r
 routine-whole u at r is here = by_vars (IsResolved-vars u at r is here)
@@ -31,7 +31,7 @@ routine-whole u at r is here = by_vars (IsResolved-vars u at r is here)
 main-there : (u : Tables) → HasRun u → (code_of u).main < length (code_of u).classes
 main-there u run =
     subst (λ n. (code_of u).main < n) (sym (length-map u.program.classes (λ (c : ClassDecl). map (λ f. f.ty) c.fields)))
-    (subst (λ n. n < length u.program.classes) run.class (method-class_within u run.table run.«method» run.is))
+    (subst (λ n. n < length u.program.classes) run.class (method-class-within u run.table run.«method» run.is))
 
 -- its Run is that of the unit
 run-right : (u : Tables) (run : HasRun u) → IsRun (code_of u) (routine u run.table run.«method»)

@@ -173,11 +173,11 @@ module _ (u : UnitCode) (whole : IsWhole u) (labels : Labels) (h : Objects Name)
   allowed : IsAllowed (context_above u below b.own.routine st) (Simple (Invoke into tie consumed y m args)) (valued b.own.vars)
   allowed = (top-goes u below b.own.routine (Do span (Invoke into tie consumed y m args) rest) st (valued b.own.vars) H goes).1.0
 
-  right_call : (p : Perm) × RightCall c into tie consumed y args r p (valued b.own.vars)
-  right_call = right-call u below b.own.routine st into tie consumed y m args r (valued b.own.vars) begins.here allowed tied
+  called-rightly : (p : Perm) × RightCall c into tie consumed y args r p (valued b.own.vars)
+  called-rightly = right-call u below b.own.routine st into tie consumed y m args r (valued b.own.vars) begins.here allowed tied
 
   starts : Starts u labels h c (at Here) z st b.own fit tie consumed y args r this found vs
-  starts = call-starts u labels h c (at Here) z st b.own fit into tie consumed y args r right_call.0 (valued b.own.vars) this (Reference begins.p begins.n) found vs right_call.1 (λ x e. e) begins.receiver begins.receives
+  starts = call-starts u labels h c (at Here) z st b.own fit into tie consumed y args r called-rightly.0 (valued b.own.vars) this (Reference begins.p begins.n) found vs called-rightly.1 (λ x e. e) begins.receiver begins.receives
 
   hands : Hands (at Here) (calls st) (mentions (Invoke into tie consumed y m args)) moves
   hands = call-hands c (at Here) (calls st) into tie consumed y m args r (zone_of_call tie (at Here) z st)
@@ -206,8 +206,8 @@ module _ (u : UnitCode) (whole : IsWhole u) (labels : Labels) (h : Objects Name)
               let no : true ≡ false = sym e ∙ statement-shown u below b.own.routine span (Invoke into tie consumed y m args) rest st (valued b.own.vars) H goes x (ap (λ k. those (hidden_above below st) k) (sym same) ∙ q.1) in
               let w : ⊥ = cc no in w
 
-  lower_fit : stack_fits u then h (at Here) z b.own.routine st ≡ true
-  lower_fit =
+  lower-fit : stack_fits u then h (at Here) z b.own.routine st ≡ true
+  lower-fit =
       stack-carry u labels h (λ x. moved moves x) hands.good (at Here) z b.own.routine st
       (stack-stays u labels h (λ x. moved moves x) hands.good (at Here) z below (Do span (Invoke into tie consumed y m args) rest) st (zones st) stays (λ q e. hands.other (OwnOf q) (λ x p. refl)) low (le_refl (zones st)) hid) stack
 
@@ -218,37 +218,37 @@ module _ (u : UnitCode) (whole : IsWhole u) (labels : Labels) (h : Objects Name)
   method-so : context_of u m ≡ context u r
   method-so i = context_if u (begins.here i)
 
-  whole_method : IsWholeRoutine u r
-  whole_method = whole.routines m r begins.here
+  whole-method : IsWholeRoutine u r
+  whole-method = whole.routines m r begins.here
 
-  vars_fit : variables_fit u then h (zone_of_call tie (at Here) z st) (at Here) (suc (calls st)) 0 (context_of u m).vars (first_vars tagged r this found) ≡ true
-  vars_fit =
+  vars-fit : variables_fit u then h (zone_of_call tie (at Here) z st) (at Here) (suc (calls st)) 0 (context_of u m).vars (first_vars tagged r this found) ≡ true
+  vars-fit =
       ap (λ (k : Context). variables_fit u then h (zone_of_call tie (at Here) z st) (at Here) (suc (calls st)) 0 k.vars (first_vars tagged r this found)) method-so
-      ∙ ap (λ (ts : List Ty). variables_fit u then h (zone_of_call tie (at Here) z st) (at Here) (suc (calls st)) 0 ts (this ∷ (found ++ replicate (length ts - (1 + length found)) None))) whole_method.vars
-      ∙ first-fit u h c (at Here) (calls st) (top_zone (at Here) z st) (zone_of_call tie (at Here) z st) r.receiver r.class r.params then this found (while_called tagged Moving tie y vs) whole_method.locals
-      (length (Ref r.receiver (Class r.class) ∷ (r.params ++ whole_method.locals)) - (1 + length found)) count starts.0
+      ∙ ap (λ (ts : List Ty). variables_fit u then h (zone_of_call tie (at Here) z st) (at Here) (suc (calls st)) 0 ts (this ∷ (found ++ replicate (length ts - (1 + length found)) None))) whole-method.vars
+      ∙ first-fit u h c (at Here) (calls st) (top_zone (at Here) z st) (zone_of_call tie (at Here) z st) r.receiver r.class r.params then this found (while_called tagged Moving tie y vs) whole-method.locals
+      (length (Ref r.receiver (Class r.class) ∷ (r.params ++ whole-method.locals)) - (1 + length found)) count starts.0
     where
-      count : length (r.params ++ whole_method.locals) ≡ length found + (length (Ref r.receiver (Class r.class) ∷ (r.params ++ whole_method.locals)) - (1 + length found))
-      count = go (length-append r.params whole_method.locals) starts.0.lengths
+      count : length (r.params ++ whole-method.locals) ≡ length found + (length (Ref r.receiver (Class r.class) ∷ (r.params ++ whole-method.locals)) - (1 + length found))
+      count = go (length-append r.params whole-method.locals) starts.0.lengths
         where
-          go : length (r.params ++ whole_method.locals) ≡ length r.params + length whole_method.locals → length found ≡ length r.params → length (r.params ++ whole_method.locals) ≡ length found + (suc (length (r.params ++ whole_method.locals)) - (1 + length found))
+          go : length (r.params ++ whole-method.locals) ≡ length r.params + length whole-method.locals → length found ≡ length r.params → length (r.params ++ whole-method.locals) ≡ length found + (suc (length (r.params ++ whole-method.locals)) - (1 + length found))
           go a b = omega (arith, a, b)
 
-  stack_fit : stack_fits u then h (at Here) z m (inner ∷ st) ≡ true
-  stack_fit =
+  stack-fit : stack_fits u then h (at Here) z m (inner ∷ st) ≡ true
+  stack-fit =
       together (variables_fit u then h (top_zone (at Here) z st) (at Here) (calls st) 0 c.vars (while_called tagged Moving tie y vs)) _
       (from-all u then h (top_zone (at Here) z st) (at Here) (calls st) c.vars (while_called tagged Moving tie y vs) starts.0.kept)
       (together (lent_right u then h tie (type_of c y) (lent_by Moving tie this) && lent_fits u then h (Base (at Here) (suc (zones st))) (type_of c y) (lent_by Moving tie this)) _ starts.1
       (together (result_fits u then h tie (context_of u m).result into b.own.routine) (stack_fits u then h (at Here) z b.own.routine st)
-      (ap (λ (k : Context). result_fits u then h tie k.result into b.own.routine) method-so ∙ result-right u then h b.own.routine into tie consumed y args r right_call.0 (valued b.own.vars) right_call.1) lower_fit))
+      (ap (λ (k : Context). result_fits u then h tie k.result into b.own.routine) method-so ∙ result-right u then h b.own.routine into tie consumed y args r called-rightly.0 (valued b.own.vars) called-rightly.1) lower-fit))
 
   -- the method's body goes on, and fits
   pub call-fits : (l : Own) (t : ℕ) (code : Code) (saved : List Held) (lent : Option Held) (n : ℕ) → saved ≡ while_called tagged Moving tie y vs → lent ≡ lent_by Moving tie this → n ≡ b.own.routine → l.vars ≡ first_vars tagged r this found → l.routine ≡ m
       → tree_fits u called h at z (done (core u) b t (On l code (OpenCall tie into y saved lent n rest ∷ st))) ≡ true
   call-fits l t code saved lent n same_saved same_lent same_caller same routine =
       subst (λ (ls : Labels). tree_fits u ls h at z (done (core u) b t (On l code (OpenCall tie into y saved lent n rest ∷ st))) ≡ true) (sym called-so)
-      (on-fits u then h (at Here) z b l t m (first_vars tagged r this found) code (OpenCall tie into y saved lent n rest ∷ st) same routine vars_fit
-      (subst (λ (f : Frame Held). stack_fits u then h (at Here) z m (f ∷ st) ≡ true) (λ i. OpenCall tie into y (sym same_saved i) (sym same_lent i) (sym same_caller i) rest) stack_fit) at refl)
+      (on-fits u then h (at Here) z b l t m (first_vars tagged r this found) code (OpenCall tie into y saved lent n rest ∷ st) same routine vars-fit
+      (subst (λ (f : Frame Held). stack_fits u then h (at Here) z m (f ∷ st) ≡ true) (λ i. OpenCall tie into y (sym same_saved i) (sym same_lent i) (sym same_caller i) rest) stack-fit) at refl)
 
   -- and so do the objects
   pub call-objects : ((n : Name) → object_fits u labels h n (h n) ≡ true) → (n : Name) → object_fits u called h n (h n) ≡ true

@@ -150,20 +150,20 @@ module _ (u : UnitCode) (labels : Labels) (h : Objects Name) (at : Way → Way) 
     abbrev pub new : List Held
     new = assign (from_either (those hides) saved (clear_all tagged (clear tagged b.own.vars y) own)) x (Some val)
 
-    vars_fit : variables_fit u gave h (top_zone (at Here) z st) (at Here) (calls st) 0 c.vars new ≡ true
-    vars_fit =
+    vars-fit : variables_fit u gave h (top_zone (at Here) z st) (at Here) (calls st) 0 c.vars new ≡ true
+    vars-fit =
         subst (λ (ls : Labels). variables_fit u ls h (top_zone (at Here) z st) (at Here) (calls st) 0 c.vars new ≡ true) (sym gave-so)
         (gives.given-fits u labels h (at Here) z st low below rest b.own.routine y x ts.p ts.q ts.s ts.t own hides b.own.vars saved val U fits laid (λ n e. or_left (valued b.own.vars n) (mentioned (Give span y x) n) e) tied ts.gives ts.takes ts.shapes ts.order shown only has)
 
-    stack_fit : stack_fits u gave h (at Here) z b.own.routine st ≡ true
-    stack_fit =
+    stack-fit : stack_fits u gave h (at Here) z b.own.routine st ≡ true
+    stack-fit =
         subst (λ (ls : Labels). stack_fits u ls h (at Here) z b.own.routine st ≡ true) (sym gave-so)
         (gives.below-fits u labels h (at Here) z st low below rest b.own.routine y x ts.p ts.q ts.s ts.t own hides b.own.vars saved val U fits laid (λ n e. or_left (valued b.own.vars n) (mentioned (Give span y x) n) e) tied ts.gives ts.takes ts.shapes ts.order shown only has
         (and_parts (has_none (just x) (hidden_above below st)) (stack_hidden below rest st) parts.1).1 lower)
 
     -- the branch that goes on fits
     pub give-fits : (l : Own) (t : ℕ) → l.vars ≡ new → l.routine ≡ b.own.routine → tree_fits u gave h at z (done (core u) b t (On l rest st)) ≡ true
-    give-fits l t vars routine = on-fits u gave h (at Here) z b l t b.own.routine new rest st vars routine vars_fit stack_fit at refl
+    give-fits l t vars routine = on-fits u gave h (at Here) z b l t b.own.routine new rest st vars routine vars-fit stack-fit at refl
 
     -- and so do the objects
     pub give-objects : ((n : Name) → object_fits u labels h n (h n) ≡ true) → (n : Name) → object_fits u gave h n (h n) ≡ true

@@ -146,13 +146,13 @@ module _ (u : UnitCode) (labels : Labels) (h : Objects Name) (at : Way → Way) 
       (subst (λ (ls : Labels). variables_fit u ls h (top_zone (at Here) z st) (at Here) (calls st) 0 (context_of u caller).vars (assign_into (lent_back lent y saved) into (Some comes.0)) ≡ true) (sym gave-so)
       (returns.caller-fits u consumed h (at Here) z st low tie into y saved lent caller c.result comes.0 parts.kept_fit parts.lends_fit parts.result_fit (came tie refl)))
 
-  below_hid : stack_hidden below rest st ≡ true
-  below_hid = (and_parts (none_valued (hidden_above below st) saved && has_none (plus (just_lent lent y) (just_taken into)) (hidden_above below st)) (stack_hidden below rest st) hid).1
+  below-hid : stack_hidden below rest st ≡ true
+  below-hid = (and_parts (none_valued (hidden_above below st) saved && has_none (plus (just_lent lent y) (just_taken into)) (hidden_above below st)) (stack_hidden below rest st) hid).1
 
   new-stack : stack_fits u gave_back h (at Here) z caller st ≡ true
   new-stack =
       subst (λ (ls : Labels). stack_fits u ls h (at Here) z caller st ≡ true) (sym gave-so)
-      (returns.below-fits u consumed h (at Here) z st low tie into y saved lent caller c.result comes.0 below rest caller below_hid parts.lower_fit)
+      (returns.below-fits u consumed h (at Here) z st low tie into y saved lent caller c.result comes.0 below rest caller below-hid parts.lower_fit)
 
   -- the caller goes on, and fits
   pub return-fits : (l : Own) (t : ℕ) → l.vars ≡ assign_into (lent_back lent y saved) into v → l.routine ≡ caller → tree_fits u gave_back h at z (done (core u) b t (On l rest st)) ≡ true

@@ -264,18 +264,18 @@ module _ (u : UnitCode) (labels : Labels) (h : Objects Name) (at : Way → Way) 
   load-field-moves : MovesFields labels labels-loaded
   load-field-moves = record { ρ = ρ; good = froze-good i j r f; own = froze-own i j r f; stay = froze-variable i j r f; so = loaded-so }
 
-  vars_fit : variables_fit u labels-loaded h (top_zone (at Here) z st) (at Here) (calls st) 0 c.vars (assign b.own.vars x w) ≡ true
-  vars_fit =
+  vars-fit : variables_fit u labels-loaded h (top_zone (at Here) z st) (at Here) (calls st) 0 c.vars (assign b.own.vars x w) ≡ true
+  vars-fit =
       subst (λ (v : Held). variables_fit u labels-loaded h (top_zone (at Here) z st) (at Here) (calls st) 0 c.vars (assign b.own.vars x v) ≡ true) (sym d.1.1)
       (variables-after u labels labels-loaded h load-field-moves (at Here) (calls st) (top_zone (at Here) z st) c.vars b.own.vars x ts.taker d.0 ts.takes
       (subst (λ (ls : Labels). value_fits h (λ q m. var_may_lead q (OfVariable (at Here) (calls st) x) (top_zone (at Here) z st) (ls m)) ts.taker d.0 ≡ true) (sym loaded-so) comes) vars)
 
-  stack_fit : stack_fits u labels-loaded h (at Here) z b.own.routine st ≡ true
-  stack_fit = stack-after u labels labels-loaded h load-field-moves (at Here) z b.own.routine st stack
+  stack-fit : stack_fits u labels-loaded h (at Here) z b.own.routine st ≡ true
+  stack-fit = stack-after u labels labels-loaded h load-field-moves (at Here) z b.own.routine st stack
 
   -- the branch that goes on fits
   pub load-field-fits : (l : Own) (t : ℕ) → l.vars ≡ assign b.own.vars x w → l.routine ≡ b.own.routine → tree_fits u labels-loaded h at z (done (core u) b t (On l rest st)) ≡ true
-  load-field-fits l t same routine = on-fits u labels-loaded h (at Here) z b l t b.own.routine (assign b.own.vars x w) rest st same routine vars_fit stack_fit at refl
+  load-field-fits l t same routine = on-fits u labels-loaded h (at Here) z b l t b.own.routine (assign b.own.vars x w) rest st same routine vars-fit stack-fit at refl
 
   -- and so do the objects
   pub load-field-objects : (n : Name) → object_fits u labels-loaded h n (h n) ≡ true

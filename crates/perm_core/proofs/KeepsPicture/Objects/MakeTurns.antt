@@ -150,8 +150,8 @@ module _ (u : UnitCode) (labels : Labels) (h : Objects Name) (at : Way → Way) 
           (ap (λ o. has_shape o s (length_of shape len)) more-name ∙ new-shape u shape s len (not-false (same_shape shape s) e))
           (ap (λ r. var_may_lead p (OfVariable (at Here) (calls st) x) (top_zone (at Here) z st) r) (made-name ∙ q) ∙ goal-leads p (OfVariable (at Here) (calls st) x) (top_zone (at Here) z st))
 
-  vars_fit : variables_fit u made more (top_zone (at Here) z st) (at Here) (calls st) 0 c.vars (assign b.own.vars x (Some found)) ≡ true
-  vars_fit = from-all u made more (top_zone (at Here) z st) (at Here) (calls st) c.vars (assign b.own.vars x (Some found)) (record { lengths = fit.lengths ∙ sym (set-length b.own.vars x (Some found)); each = each })
+  vars-fit : variables_fit u made more (top_zone (at Here) z st) (at Here) (calls st) 0 c.vars (assign b.own.vars x (Some found)) ≡ true
+  vars-fit = from-all u made more (top_zone (at Here) z st) (at Here) (calls st) c.vars (assign b.own.vars x (Some found)) (record { lengths = fit.lengths ∙ sym (set-length b.own.vars x (Some found)); each = each })
     where
       each : (n : ℕ) (t : Ty) (d : Value Name) → slice_get c.vars n ≡ Some t → slice_get (assign b.own.vars x (Some found)) n ≡ Some (Some d) → Fits n t d
       each n t d here has = pick (set-cases b.own.vars x (Some found) n (Some d) has)
@@ -162,12 +162,12 @@ module _ (u : UnitCode) (labels : Labels) (h : Objects Name) (at : Way → Way) 
               subst (λ (m : ℕ). Fits m t d) (sym q.0) (subst (λ (s : Ty). Fits x s d) same (subst (λ (e : Value Name). Fits x type.0 e) (some_inj q.1) new-fits))
           pick (inr q) = variable-more u labels made h more made-keeps (top_zone (at Here) z st) (at Here) (calls st) n t d (fit.each n t d here q.1)
 
-  stack_fit : stack_fits u made more (at Here) z b.own.routine st ≡ true
-  stack_fit = stack-more u labels made h more made-keeps (at Here) z b.own.routine st stack
+  stack-fit : stack_fits u made more (at Here) z b.own.routine st ≡ true
+  stack-fit = stack-more u labels made h more made-keeps (at Here) z b.own.routine st stack
 
   -- the branch that goes on fits
   pub make-fits : (l : Own) (t : ℕ) → l.vars ≡ assign b.own.vars x (Some found) → l.routine ≡ b.own.routine → tree_fits u made more at z (done (core u) b t (On l rest st)) ≡ true
-  make-fits l t same routine = on-fits u made more (at Here) z b l t b.own.routine (assign b.own.vars x (Some found)) rest st same routine vars_fit stack_fit at refl
+  make-fits l t same routine = on-fits u made more (at Here) z b l t b.own.routine (assign b.own.vars x (Some found)) rest st same routine vars-fit stack-fit at refl
 
   -- and so do the objects
   pub make-objects : ((n : Name) → object_fits u labels h n (h n) ≡ true) → (n : Name) → object_fits u made more n (more n) ≡ true

@@ -198,20 +198,20 @@ module _ (u : UnitCode) (labels : Labels) (h : Objects Name) (at : Way → Way) 
   take-field-keeps : (ls : Labels) → KeepsShapes ls ls h objects-taken
   take-field-keeps ls = after-keeps u (λ n. true) (Take r f) ls (record { objects = h; given = 0 }) (λ by shape n e. absurd (let no : ⊥ = cc e in no))
 
-  vars_fit : variables_fit u labels-taken objects-taken zone (at Here) (calls st) 0 c.vars (assign b.own.vars x w) ≡ true
-  vars_fit =
+  vars-fit : variables_fit u labels-taken objects-taken zone (at Here) (calls st) 0 c.vars (assign b.own.vars x w) ≡ true
+  vars-fit =
       subst (λ (v : Held). variables_fit u labels-taken objects-taken zone (at Here) (calls st) 0 c.vars (assign b.own.vars x v) ≡ true) (sym d.1.1)
       (variables-after u labels labels-taken objects-taken take-field-moves (at Here) (calls st) zone c.vars b.own.vars x (Ref ts.q ts.s) d.0 ts.takes
       (variable-more u labels-taken labels-taken h objects-taken (take-field-keeps labels-taken) zone (at Here) (calls st) x (Ref ts.q ts.s) d.0
       (subst (λ (ls : Labels). value_fits h (λ q m. var_may_lead q (OfVariable (at Here) (calls st) x) zone (ls m)) (Ref ts.q ts.s) d.0 ≡ true) (sym taken-so) comes))
       (variables-more u labels labels h objects-taken (take-field-keeps labels) zone (at Here) (calls st) 0 c.vars b.own.vars vars))
 
-  stack_fit : stack_fits u labels-taken objects-taken (at Here) z b.own.routine st ≡ true
-  stack_fit = stack-after u labels labels-taken objects-taken take-field-moves (at Here) z b.own.routine st (stack-more u labels labels h objects-taken (take-field-keeps labels) (at Here) z b.own.routine st stack)
+  stack-fit : stack_fits u labels-taken objects-taken (at Here) z b.own.routine st ≡ true
+  stack-fit = stack-after u labels labels-taken objects-taken take-field-moves (at Here) z b.own.routine st (stack-more u labels labels h objects-taken (take-field-keeps labels) (at Here) z b.own.routine st stack)
 
   -- the branch that goes on fits
   pub take-field-fits : (l : Own) (t : ℕ) → l.vars ≡ assign b.own.vars x w → l.routine ≡ b.own.routine → tree_fits u labels-taken objects-taken at z (done (core u) b t (On l rest st)) ≡ true
-  take-field-fits l t same routine = on-fits u labels-taken objects-taken (at Here) z b l t b.own.routine (assign b.own.vars x w) rest st same routine vars_fit stack_fit at refl
+  take-field-fits l t same routine = on-fits u labels-taken objects-taken (at Here) z b l t b.own.routine (assign b.own.vars x w) rest st same routine vars-fit stack-fit at refl
 
   -- ---------- objects ----------
   abbrev after : Labels

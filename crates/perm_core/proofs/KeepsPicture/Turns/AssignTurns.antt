@@ -134,8 +134,8 @@ module _ (u : UnitCode) (labels : Labels) (h : Objects Name) (at : Way → Way) 
       (applies-none (context_above u below b.own.routine st) (Simple (Assign x a)) (valued b.own.vars) allowed NeedsConsume)
       (λ y p s m q. (λ e. refl, λ e. refl))
 
-  vars_fit : variables_fit u assigned h (top_zone (at Here) z st) (at Here) (calls st) 0 c.vars (assign ws x v) ≡ true
-  vars_fit = from-all u assigned h (top_zone (at Here) z st) (at Here) (calls st) c.vars (assign ws x v) (record { lengths = fit.lengths ∙ sym (set-length ws x v ∙ one-length b.own.vars ws a v one); each = each })
+  vars-fit : variables_fit u assigned h (top_zone (at Here) z st) (at Here) (calls st) 0 c.vars (assign ws x v) ≡ true
+  vars-fit = from-all u assigned h (top_zone (at Here) z st) (at Here) (calls st) c.vars (assign ws x v) (record { lengths = fit.lengths ∙ sym (set-length ws x v ∙ one-length b.own.vars ws a v one); each = each })
     where
       Fits : ℕ → Ty → Value Name → Type 0
       Fits n t d = value_fits h (λ p m. var_may_lead p (OfVariable (at Here) (calls st) n) (top_zone (at Here) z st) (assigned m)) t d ≡ true
@@ -158,8 +158,8 @@ module _ (u : UnitCode) (labels : Labels) (h : Objects Name) (at : Way → Way) 
               one-carry u labels h (moves u labels h c (at Here) (calls st) to to-there a) (moves-good u labels h c (at Here) (calls st) to to-there a) (at Here) (at Here) (calls st) (calls st) n n (top_zone (at Here) z st) (top_zone (at Here) z st) t d
               (moves-beside u labels h c (at Here) (calls st) to to-there a n o.1) (moves-own u labels h c (at Here) (calls st) to to-there a (top_zone (at Here) z st)) (fit.each n t d is o.0)
 
-  stack_fit : stack_fits u assigned h (at Here) z b.own.routine st ≡ true
-  stack_fit =
+  stack-fit : stack_fits u assigned h (at Here) z b.own.routine st ≡ true
+  stack-fit =
       stack-carry u labels h (moves u labels h c (at Here) (calls st) to to-there a) (moves-good u labels h c (at Here) (calls st) to to-there a) (at Here) z b.own.routine st
       (stack-stays u labels h (moves u labels h c (at Here) (calls st) to to-there a) (moves-good u labels h c (at Here) (calls st) to to-there a) (at Here) z below (Do span (Assign x a) rest) st (zones st) stays (λ q e. moves-own u labels h c (at Here) (calls st) to to-there a q) low (le_refl (zones st)) hid) stack
     where
@@ -182,7 +182,7 @@ module _ (u : UnitCode) (labels : Labels) (h : Objects Name) (at : Way → Way) 
 
   -- the branch that goes on fits
   pub assign-fits : (l : Own) (t : ℕ) → l.vars ≡ assign ws x v → l.routine ≡ b.own.routine → tree_fits u assigned h at z (done (core u) b t (On l rest st)) ≡ true
-  assign-fits l t same routine = on-fits u assigned h (at Here) z b l t b.own.routine (assign ws x v) rest st same routine vars_fit stack_fit at refl
+  assign-fits l t same routine = on-fits u assigned h (at Here) z b l t b.own.routine (assign ws x v) rest st same routine vars-fit stack-fit at refl
 
   -- and so do the objects
   pub assign-objects : ((n : Name) → object_fits u labels h n (h n) ≡ true) → (n : Name) → object_fits u assigned h n (h n) ≡ true

@@ -30,14 +30,6 @@ module _ (u : UnitCode) (fits : ℕ → Bool) where
     pub run : Reach u fits s state
     pub stopped : IsStopped state
 
-  -- a stopped state has no event
-  pub stopped-rests : (s : State) → IsStopped s → careful (named Copies u) (memory u) fits s (leftmost s.task) ≡ None
-  stopped-rests s is = go (look (named Copies u) (leftmost s.task) s.task) refl
-    where
-      go : (o : Option Op) → look (named Copies u) (leftmost s.task) s.task ≡ o → asked_with_care (named Copies u) (memory u) fits s (leftmost s.task) o ≡ None
-      go None q = refl
-      go (Some o) q = ap (λ a. granted (named Copies u) (memory u) fits s (leftmost s.task) o a) (is.missing o q)
-
   -- the same from an earlier state
   pub stops-along : (s t : State) → Reach u fits s t → Stops t → Stops s
   stops-along s t l x = record { state = x.state; run = lead (named Copies u) (memory u) fits s t x.state l x.run; stopped = x.stopped }
