@@ -5,7 +5,7 @@ use Rattle.perm_tree.specs.Code.{UnitCode, Code, End, Give, Return, Do, If, Whil
 use Rattle.perm_meaning.specs.Machine.{Own, Frame, OpenBlock, OpenRecover, OpenCall, Close, Returning, Failing, Branch, Task, Leaf, Fork, Blocks, Way, Here, GoL, GoR, Final, Fine, GaveBack, Failed, Stage, Over, Due, over, stage_by_turns, stage_by_code, stage_from, stage, final, turns_of, join_final, if_both_over, Did, On, Splits, Ends, Dies, Turn, Takes, NoTurn, Machine, settled, done, told_to, turn_op, next_turn, leaf_op, leaf_on, resumed, join_of, look, fill}
 use Rattle.perm_meaning.specs.NamedHeap.{memory}
 use Rattle.perm_meaning.specs.Steps.{Memory, Answer, Found, Refused, Missing, State, within, answered, asked, step, runs}
-use Rattle.perm_meaning.proofs.Leads.{some_inj, none_some}
+use Rattle.perm_meaning.proofs.Leads.{some-inj, none-some}
 use Rattle.perm_meaning.specs.Outcome.{opening_state}
 use Rattle.perm_core.specs.Core.{core}
 use Rattle.perm_core.specs.Claims.{FewEvents}
@@ -55,16 +55,16 @@ module _ {V G : Type 0} where
 
   -- a leaf that is over has the turns that are left
   pub over-turns : (close : Option (Close V)) (c : Code) (st : List (Frame V)) (t : ℕ) (l : Own V G) (f : Final V) → over (stage_from close (stage_by_code c st t l) t l) ≡ Some f → turns_of f ≡ t
-  over-turns (Some (Returning v)) c st t l f e = ap turns_of (some_inj (sym e))
-  over-turns (Some (Failing x)) c st t l f e = ap turns_of (some_inj (sym e))
+  over-turns (Some (Returning v)) c st t l f e = ap turns_of (some-inj (sym e))
+  over-turns (Some (Failing x)) c st t l f e = ap turns_of (some-inj (sym e))
   over-turns None c st t l f e = by_code c st e
     where
       by_turns : (n : ℕ) → over (stage_by_turns n l) ≡ Some f → turns_of f ≡ n
-      by_turns zero e = ap turns_of (some_inj (sym e))
-      by_turns (suc n) e = none_some e
+      by_turns zero e = ap turns_of (some-inj (sym e))
+      by_turns (suc n) e = none-some e
 
       by_code : (c : Code) (st : List (Frame V)) → over (stage_by_code c st t l) ≡ Some f → turns_of f ≡ t
-      by_code End [] e = ap turns_of (some_inj (sym e))
+      by_code End [] e = ap turns_of (some-inj (sym e))
       by_code End (g ∷ st) e = by_turns t e
       by_code (Give at w x) st e = by_turns t e
       by_code (Return at a) st e = by_turns t e
@@ -81,7 +81,7 @@ module _ {V G : Type 0} where
 
   final-weight : (t : Task V G) (f : Final V) → final t ≡ Some f → weight t ≡ 2 * turns_of f
   final-weight (Leaf b) f e = ap (λ n. 2 * n) (sym (over-turns b.close b.code b.stack b.turns b.own f e))
-  final-weight (Fork b p l r) f e = none_some e
+  final-weight (Fork b p l r) f e = none-some e
 
 -- ---------- one event ----------
 module _ {V G O : Type 0} (m : Machine V G O) where
@@ -106,12 +106,12 @@ module _ {V G O : Type 0} (m : Machine V G O) where
   done-less b t (Dies e) = omega arith
 
   told-less : (b : Branch V G) (t : ℕ) (turn : Turn V G O) (o : O) (v : Option V) → turn_op m turn ≡ Some o → suc (weight (told_to m b t turn v)) ≤ 2 * suc t
-  told-less b t NoTurn o v e = none_some e
+  told-less b t NoTurn o v e = none-some e
   told-less b t (Takes q told) o None e = omega arith
   told-less b t (Takes q told) o (Some v) e = done-less b t (told v)
 
   leaf-less : (b : Branch V G) (st : Stage V) (o : O) (v : Option V) → stage b ≡ st → leaf_op m b st ≡ Some o → suc (weight (leaf_on m b st v)) ≤ 2 * b.turns
-  leaf-less b (Over f) o v is e = none_some e
+  leaf-less b (Over f) o v is e = none-some e
   leaf-less b (Due t) o v is e =
       let turns : b.turns ≡ suc t = due-turns b.close b.code b.stack b.turns t b.own is in
       let less : suc (weight (told_to m b t (next_turn m b) v)) ≤ 2 * suc t = told-less b t (next_turn m b) o v e in
@@ -124,8 +124,8 @@ module _ {V G O : Type 0} (m : Machine V G O) where
 
   join-less : (b : Branch V G) (p : Blocks) (l r : Task V G) (f g : Option (Final V)) (o : O) → final l ≡ f → final r ≡ g → if_both_over f g None (λ x y. Some m.idle) ≡ Some o
       → suc (weight (if_both_over f g (Fork b p l r) (λ x y. resumed m b (join_of m b p x y)))) ≤ suc (weight l + weight r)
-  join-less b p l r None g o left right e = none_some e
-  join-less b p l r (Some x) None o left right e = none_some e
+  join-less b p l r None g o left right e = none-some e
+  join-less b p l r (Some x) None o left right e = none-some e
   join-less b p l r (Some x) (Some y) o left right e =
       let whole : weight (resumed m b (join_of m b p x y)) ≡ 2 * turns_of (join_of m b p x y) = resumed-weight b (join_of m b p x y) in
       let both : turns_of (join_of m b p x y) ≡ turns_of x + turns_of y = join-turns (m.parting.joined b.own.routine p) b.own.vars b.own.printed x y in
@@ -137,8 +137,8 @@ module _ {V G O : Type 0} (m : Machine V G O) where
   fill-less : (w : Way) (t : Task V G) (o : O) (v : Option V) → look m w t ≡ Some o → suc (weight (fill m w t v)) ≤ weight t
   fill-less Here (Leaf b) o v e = leaf-less b (stage b) o v refl e
   fill-less Here (Fork b p l r) o v e = join-less b p l r (final l) (final r) o refl refl e
-  fill-less (GoL w) (Leaf b) o v e = none_some e
-  fill-less (GoR w) (Leaf b) o v e = none_some e
+  fill-less (GoL w) (Leaf b) o v e = none-some e
+  fill-less (GoR w) (Leaf b) o v e = none-some e
   fill-less (GoL w) (Fork b p l r) o v e = let less : suc (weight (fill m w l v)) ≤ weight l = fill-less w l o v e in omega arith
   fill-less (GoR w) (Fork b p l r) o v e = let less : suc (weight (fill m w r v)) ≤ weight r = fill-less w r o v e in omega arith
 
@@ -147,22 +147,22 @@ module _ {V G O : Type 0} (m : Machine V G O) where
     step-less s t w e = looked (look m w s.task) refl e
       where
         reply : (o : O) (x : Answer V) → look m w s.task ≡ Some o → answered m memory fits s w o x ≡ Some t → suc (weight t.task) ≤ weight s.task
-        reply o (Found v) q e = subst (λ (z : State V G H). suc (weight z.task) ≤ weight s.task) (some_inj e) (fill-less w s.task o (Some v) q)
-        reply o Refused q e = subst (λ (z : State V G H). suc (weight z.task) ≤ weight s.task) (some_inj e) (fill-less w s.task o None q)
-        reply o Missing q e = none_some e
+        reply o (Found v) q e = subst (λ (z : State V G H). suc (weight z.task) ≤ weight s.task) (some-inj e) (fill-less w s.task o (Some v) q)
+        reply o Refused q e = subst (λ (z : State V G H). suc (weight z.task) ≤ weight s.task) (some-inj e) (fill-less w s.task o None q)
+        reply o Missing q e = none-some e
 
         looked : (x : Option O) → look m w s.task ≡ x → asked m memory fits s w x ≡ Some t → suc (weight t.task) ≤ weight s.task
-        looked None q e = none_some e
+        looked None q e = none-some e
         looked (Some o) q e = reply o (memory.find fits o s.heap) q e
 
     -- ---------- lists of events ----------
     runs-less : (ws : List Way) (s t : State V G H) → runs (step m memory fits) ws s ≡ Some t → length ws + weight t.task ≤ weight s.task
-    runs-less [] s t e = let same : weight s.task ≡ weight t.task = ap (λ (z : State V G H). weight z.task) (some_inj e) in omega arith
+    runs-less [] s t e = let same : weight s.task ≡ weight t.task = ap (λ (z : State V G H). weight z.task) (some-inj e) in omega arith
     runs-less (w ∷ ws) s t e = on (step m memory fits s w) refl e (λ next. runs-less ws next t)
       where
         on : (o : Option (State V G H)) → step m memory fits s w ≡ o → option_and_then (runs (step m memory fits) ws) o ≡ Some t
             → ((next : State V G H) → runs (step m memory fits) ws next ≡ Some t → length ws + weight t.task ≤ weight next.task) → length (w ∷ ws) + weight t.task ≤ weight s.task
-        on None q e go = none_some e
+        on None q e go = none-some e
         on (Some next) q e go =
             let rest : length ws + weight t.task ≤ weight next.task = go next e in
             let less : suc (weight next.task) ≤ weight s.task = step-less s next w q in

@@ -19,8 +19,8 @@ use Rattle.perm_meaning.specs.Objects.{Objects, zero_of, types_or_none, new_obje
 use Rattle.perm_meaning.specs.Machine.{Way, Here}
 use Rattle.perm_meaning.specs.NamedHeap.{Held}
 use Rattle.perm_meaning.specs.Outcome.{opening_heap, opening_own, opening_state}
-use Rattle.perm_meaning.proofs.Leads.{some_inj, none_some}
-use Rattle.perm_meaning.proofs.SameName.{eq_itself, name_true, together}
+use Rattle.perm_meaning.proofs.Leads.{some-inj, none-some}
+use Rattle.perm_meaning.proofs.SameName.{eq-itself, name-true, together}
 use Rattle.perm_core.specs.Endings.{ByReturn, ends, is_settled}
 use Rattle.perm_rules.specs.Scoping.{is_scoped}
 use Rattle.perm_core.specs.Marked.{calls_right}
@@ -42,8 +42,8 @@ settled (Par at own1 a own2 b rest) = refl
 settled (Recover at x own hides body rest) = refl
 
 pub derived : (u : UnitCode) (rs : List Routine) (m : ℕ) (r : Routine) → HaveDerivations u rs → slice_get rs m ≡ Some r → HasDerivation u r
-derived u [] m r all e = none_some e
-derived u (q ∷ rs) zero r all e = subst (λ z. HasDerivation u z) (some_inj e) all.0
+derived u [] m r all e = none-some e
+derived u (q ∷ rs) zero r all e = subst (λ z. HasDerivation u z) (some-inj e) all.0
 derived u (q ∷ rs) (suc m) r all e = derived u rs m r all.1 e
 
 -- ---------- values ----------
@@ -88,7 +88,7 @@ module _ (u : UnitCode) (limit : ℕ) (input : List ℤ) (turns : ℕ) (r : Rout
   routine = checked.whole.routines u.run r opens.run
 
   run : IsRun u r
-  run = subst (IsRun u) (some_inj (sym checked.whole.there ∙ opens.run)) checked.whole.run
+  run = subst (IsRun u) (some-inj (sym checked.whole.there ∙ opens.run)) checked.whole.run
 
   types : r.vars ≡ Ref Writable (Class u.main) ∷ (Ref Immutable Array ∷ routine.locals)
   types = routine.vars ∙ (λ i. Ref (run.receiver i) (Class (run.class i)) ∷ (run.params i ++ routine.locals))
@@ -119,10 +119,10 @@ module _ (u : UnitCode) (limit : ℕ) (input : List ℤ) (turns : ℕ) (r : Rout
       others = variables_fit u first_picture objects (Base Here 0) Here 0 2 routine.locals (replicate (length routine.locals) None)
 
       this-fits : this_fits ≡ true
-      this-fits = ap (λ t. ((t && nat_eq 0 0) && true)) (eq_itself u.main)
+      this-fits = ap (λ t. ((t && nat_eq 0 0) && true)) (eq-itself u.main)
 
       input-fits : input_fits ≡ true
-      input-fits = ap (λ t. t && true) (ap (λ n. nat_eq n (length input)) (length-map input Number) ∙ eq_itself (length input))
+      input-fits = ap (λ t. t && true) (ap (λ n. nat_eq n (length input)) (length-map input Number) ∙ eq-itself (length input))
 
   -- ---------- objects ----------
   main-fields : (ts : List Ty) × (slice_get u.classes u.main ≡ Some ts)
@@ -138,8 +138,8 @@ module _ (u : UnitCode) (limit : ℕ) (input : List ℤ) (turns : ℕ) (r : Rout
       input_fits = all-numbers u first_picture objects input
 
       go : (s t : Bool) → same_name n root_name ≡ s → same_name n input_name ≡ t → object_fits u first_picture objects n (objects n) ≡ true
-      go true t e f = subst (λ z. object_fits u first_picture objects z (objects z) ≡ true) (sym (name_true n root_name e)) root-fits
-      go false true e f = subst (λ z. object_fits u first_picture objects z (objects z) ≡ true) (sym (name_true n input_name f)) input_fits
+      go true t e f = subst (λ z. object_fits u first_picture objects z (objects z) ≡ true) (sym (name-true n root_name e)) root-fits
+      go false true e f = subst (λ z. object_fits u first_picture objects z (objects z) ≡ true) (sym (name-true n input_name f)) input_fits
       go false false e f =
           ap (λ s. object_fits u first_picture objects n (this_or s (new_object u (Class u.main) 0) (this_or (same_name n input_name) (input_object input) None))) e
           ∙ ap (λ t. object_fits u first_picture objects n (this_or t (input_object input) None)) f

@@ -30,8 +30,8 @@ use Rattle.perm_core.specs.Regions.{OfField, Labels, is_absent, field_may_lead}
 use Rattle.perm_core.specs.Picture.{has_shape, length_fits, value_fits, fields_fit, class_fits, values_fit, object_fits}
 use Rattle.perm_meaning.specs.NamedHeap.{Held, Op}
 use Rattle.perm_core.proofs.Progress.Evaluation.{IsOfType, IsOfSort, Evaluates, AreTyped, plain-long, variable-evaluates, term-evaluates}
-use Rattle.perm_meaning.proofs.Leads.{some_inj, none_some}
-use Rattle.perm_meaning.proofs.SameName.{eq_true, eq_itself}
+use Rattle.perm_meaning.proofs.Leads.{some-inj, none-some}
+use Rattle.perm_meaning.proofs.SameName.{eq-true, eq-itself}
 use Rattle.perm_core.proofs.Commute.TwoOperations.{get-beside}
 use Rattle.perm_core.proofs.Commute.LeafOperations.{Lose, clear-loses}
 
@@ -45,7 +45,7 @@ clear-typed : (c : Context) (G : Vars) (vs : List Held) (y : ℕ) → AreTyped c
 clear-typed c G vs y typed x e =
     let p = left-of (G x) (just y x) e in
     let t = typed x p.0 in
-    (t.0, t.1, t.2, get-beside vs y x (cleared_slot tagged (slice_get vs y)) (λ q. p.1 (subst (λ z. nat_eq z y ≡ true) q (eq_itself y))) ∙ t.3, t.4)
+    (t.0, t.1, t.2, get-beside vs y x (cleared_slot tagged (slice_get vs y)) (λ q. p.1 (subst (λ z. nat_eq z y ≡ true) q (eq-itself y))) ∙ t.3, t.4)
 
 -- ---------- effects ----------
 module _ (h : Objects Name) where
@@ -99,7 +99,7 @@ module _ (h : Objects Name) where
     object-goes G vs y p s go typed live type k = found (typed y (not-false (G y) live))
       where
         found : (t : Ty) × (v : Value Name) × (type_of c y ≡ Some t) × (slice_get vs y ≡ Some (Some v)) × IsOfType t v → GoesOn (on_object tagged vs y go)
-        found t = subst (λ z. GoesOn (on_value tagged (held tagged z) (λ v. on_referred tagged (tagged.as_reference v) go))) (sym t.3) (value t.1 (subst (λ z. IsOfType z t.1) (some_inj (sym t.2 ∙ type)) t.4) t.3)
+        found t = subst (λ z. GoesOn (on_value tagged (held tagged z) (λ v. on_referred tagged (tagged.as_reference v) go))) (sym t.3) (value t.1 (subst (λ z. IsOfType z t.1) (some-inj (sym t.2 ∙ type)) t.4) t.3)
           where
             value : (v : Value Name) → IsOfType (Ref p s) v → slice_get vs y ≡ Some (Some v) → GoesOn (on_referred tagged (tagged.as_reference (Some v)) go)
             value (Number n) is q = absurd is
@@ -161,14 +161,14 @@ module _ (u : UnitCode) (labels : Labels) (h : Objects Name) where
   shaped (Some x) s len e = let p = and_parts (same_shape x.shape s) (length_fits s (length x.values) len) e in (x, refl, p.0, p.1)
 
   field-value : (o : Name) (f i : ℕ) (ts : List Ty) (vs : List (Value Name)) (t : Ty) → fields_fit u labels h o i ts vs ≡ true → slice_get ts f ≡ Some t → (v : Value Name) × (slice_get vs f ≡ Some v)
-  field-value o f i [] vs t e q = none_some q
+  field-value o f i [] vs t e q = none-some q
   field-value o f i (t' ∷ ts) [] t e q = absurd (cc)
   field-value o zero i (t' ∷ ts) (v ∷ vs) t e q = (v, refl)
   field-value o (suc f) i (t' ∷ ts) (v ∷ vs) t e q =
       field-value o f (suc i) ts vs t (and_parts (value_fits h (λ p n. field_may_lead p (OfField o i) (labels o) (labels n)) t' v) (fields_fit u labels h o (suc i) ts vs) e).1 q
 
   among : (o : Option (List Ty)) (f : ℕ) (t : Ty) → field_among o f ≡ Some t → (ts : List Ty) × (o ≡ Some ts) × (slice_get ts f ≡ Some t)
-  among None f t e = none_some e
+  among None f t e = none-some e
   among (Some ts) f t e = (ts, refl, e)
 
   pub field-there : (r : Name) (k len f : ℕ) (t : Ty) → object_fits u labels h r (h r) ≡ true → has_shape (h r) (Class k) len ≡ true → field_among (slice_get u.classes k) f ≡ Some t → (v : Value Name) × (field_of h r f ≡ Some v)
@@ -184,7 +184,7 @@ module _ (u : UnitCode) (labels : Labels) (h : Objects Name) where
     where
       same-shape-true : (s : Shape) (k : ℕ) → same_shape s (Class k) ≡ true → s ≡ Class k
       same-shape-true Array k e = absurd (cc)
-      same-shape-true (Class j) k e = ap (λ z. Class z) (eq_true j k e)
+      same-shape-true (Class j) k e = ap (λ z. Class z) (eq-true j k e)
 
   pub item-there : (r : Name) (len f : ℕ) → has_shape (h r) Array len ≡ true → nat_lt f len ≡ true → (v : Value Name) × (field_of h r f ≡ Some v)
   item-there r len f shape less =

@@ -5,7 +5,7 @@ use Rattle.perm_tree.specs.Code.{UnitCode}
 use Rattle.perm_meaning.specs.Machine.{Way}
 use Rattle.perm_meaning.specs.NamedHeap.{State}
 use Rattle.perm_meaning.specs.Outcome.{opening_state}
-use Rattle.perm_meaning.proofs.Leads.{some_inj, none_some}
+use Rattle.perm_meaning.proofs.Leads.{some-inj, none-some}
 use Rattle.perm_core.specs.Core.{step, runs}
 use Rattle.perm_core.specs.Regions.{Labels}
 use Rattle.perm_core.specs.Picture.{IsPicture}
@@ -17,11 +17,11 @@ use Rattle.perm_core.proofs.KeepsPicture.PictureEvents.{keeps-picture}
 module _ (u : UnitCode) (limit : ℕ) where
   -- a list of events leads from a state with a picture to one with a picture
   pub runs-keep : IsChecked u → (labels : Labels) (ws : List Way) (s t : State) → IsPicture u labels s → runs u limit ws s ≡ Some t → (after : Labels) × IsPicture u after t
-  runs-keep checked labels [] s t picture e = (labels, subst (λ (x : State). IsPicture u labels x) (some_inj e) picture)
+  runs-keep checked labels [] s t picture e = (labels, subst (λ (x : State). IsPicture u labels x) (some-inj e) picture)
   runs-keep checked labels (w ∷ ws) s t picture e = stepped (λ r here q. runs-keep checked (next_picture u limit labels s w) ws r t (keeps-picture u limit labels s r w checked picture here) q) (step u limit s w) refl e
     where
       stepped : ((r : State) → step u limit s w ≡ Some r → runs u limit ws r ≡ Some t → (after : Labels) × IsPicture u after t) → (x : Option State) → step u limit s w ≡ x → option_and_then (runs u limit ws) x ≡ Some t → (after : Labels) × IsPicture u after t
-      stepped rest None here q = none_some q
+      stepped rest None here q = none-some q
       stepped rest (Some r) here q = rest r here q
 
   pub reaches-picture : (input : List ℤ) (turns : ℕ) → ReachesPicture u limit input turns

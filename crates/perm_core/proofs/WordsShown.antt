@@ -13,12 +13,12 @@ use Rattle.perm_meaning.specs.Shows.{Bases, Grows, IsWordOf, AnyMark, IsShown, I
 use Rattle.perm_meaning.specs.Steps.{next_state, asked, within}
 use Rattle.perm_meaning.specs.WordHeap as worded
 use Rattle.perm_meaning.specs.WordHeap.{Ask}
-use Rattle.perm_meaning.proofs.OnWords.KeptEvents.{IsKept, keeps_step}
-use Rattle.perm_meaning.proofs.Leads.{some_inj, none_some}
-use Rattle.perm_meaning.proofs.OnWords.Moved.{routine_fits}
-use Rattle.perm_meaning.proofs.OnWords.OpeningShown.{opening_bases, opening_kept, opening_shown}
-use Rattle.perm_meaning.proofs.OnWords.Related.{StageR, stage_alike, final_alike}
-use Rattle.perm_meaning.proofs.OnWords.WordsRun.{within_small, words_step}
+use Rattle.perm_meaning.proofs.OnWords.KeptEvents.{IsKept, keeps-step}
+use Rattle.perm_meaning.proofs.Leads.{some-inj, none-some}
+use Rattle.perm_meaning.proofs.OnWords.Moved.{routine-fits}
+use Rattle.perm_meaning.proofs.OnWords.OpeningShown.{opening_bases, opening-kept, opening-shown}
+use Rattle.perm_meaning.proofs.OnWords.Related.{StageR, stage-alike, final-alike}
+use Rattle.perm_meaning.proofs.OnWords.WordsRun.{within-small, words-step}
 use Rattle.perm_meaning.specs.Outcome.{opening_state}
 use Rattle.perm_core.specs.Core.{core, look, step, runs}
 use Rattle.perm_core.specs.WordCore as word_core
@@ -29,41 +29,41 @@ module _ (u : UnitCode) (limit : ℕ) where
   -- ---------- from names to words ----------
   -- what is kept of the opening is kept of each state that is reached
   kept : (uf : UnitFits u) (ws : List Way) (s t : State) → IsKept Moves u uf (within limit) s → runs u limit ws s ≡ Some t → IsKept Moves u uf (within limit) t
-  kept uf [] s t k e = subst (IsKept Moves u uf (within limit)) (some_inj e) k
+  kept uf [] s t k e = subst (IsKept Moves u uf (within limit)) (some-inj e) k
   kept uf (w ∷ ws) s t k e = on (step u limit s w) refl e (λ next. kept uf ws next t)
     where
       on : (o : Option State) → step u limit s w ≡ o → option_and_then (runs u limit ws) o ≡ Some t → ((next : State) → IsKept Moves u uf (within limit) next → runs u limit ws next ≡ Some t → IsKept Moves u uf (within limit) t)
           → IsKept Moves u uf (within limit) t
-      on None q e go = none_some e
-      on (Some next) q e go = go next (keeps_step Moves u uf (within limit) s next w k q) e
+      on None q e go = none-some e
+      on (Some next) q e go = go next (keeps-step Moves u uf (within limit) s next w k q) e
 
   pub words-follow : (input : List ℤ) (turns : ℕ) → WordsFollow u limit input turns
   words-follow input turns r is ws s s' b t w e shown event =
-      let first = opening_kept u limit input turns r (routine_fits u.routines u.run r is.code is.opens.run) in
+      let first = opening-kept u limit input turns r (routine-fits u.routines u.run r is.code is.opens.run) in
       let k = kept is.code ws (opening_state u input turns r) s first e in
-      let x = words_step Moves u is.code (within limit) (within_small limit is.bases) b s s' t w k shown event in
+      let x = words-step Moves u is.code (within limit) (within-small limit is.bases) b s s' t w k shown event in
       record { after = x.1; event = x.2; bases = x.0; grown = x.3; shown = x.4 }
 
   -- from a state that is shown
   run-shown : (uf : UnitFits u) (small : limit < 2 ^ 32) (ws : List Way) (b : Bases) (s next : State) (t : worded.State) → IsKept Moves u uf (within limit) s → IsShownBy b s t → runs u limit ws s ≡ Some next
       → (after : worded.State) × (word_core.runs u limit ws t ≡ Some after) × IsShown next after
-  run-shown uf small [] b s next t k shown e = (t, refl, (b, subst (λ z. IsShownBy b z t) (some_inj e) shown))
+  run-shown uf small [] b s next t k shown e = (t, refl, (b, subst (λ z. IsShownBy b z t) (some-inj e) shown))
   run-shown uf small (w ∷ ws) b s next t k shown e = on (step u limit s w) refl e (λ c z y. run-shown uf small ws c z next y)
     where
       on : (o : Option State) → step u limit s w ≡ o → option_and_then (runs u limit ws) o ≡ Some next
           → ((c : Bases) (z : State) (y : worded.State) → IsKept Moves u uf (within limit) z → IsShownBy c z y → runs u limit ws z ≡ Some next → (after : worded.State) × (word_core.runs u limit ws y ≡ Some after) × IsShown next after)
           → (after : worded.State) × (word_core.runs u limit (w ∷ ws) t ≡ Some after) × IsShown next after
-      on None q e go = none_some e
+      on None q e go = none-some e
       on (Some z) q e go =
-          let x = words_step Moves u uf (within limit) (within_small limit small) b s z t w k shown q in
+          let x = words-step Moves u uf (within limit) (within-small limit small) b s z t w k shown q in
           let rest = go x.0 z x.1 x.5 x.4 e in
           (rest.0, ap (option_and_then (word_core.runs u limit ws)) x.2 ∙ rest.1, rest.2)
 
   pub words-show-runs : (input : List ℤ) (turns : ℕ) → WordsShowRuns u limit input turns
   words-show-runs input turns r is ws s e =
       run-shown is.code is.bases ws (opening_bases u input is.numbers) (opening_state u input turns r) s (worded.opening_state u input turns r)
-      (opening_kept u limit input turns r (routine_fits u.routines u.run r is.code is.opens.run))
-      (opening_shown u input is.numbers limit turns r is.opens.fits is.bases)
+      (opening-kept u limit input turns r (routine-fits u.routines u.run r is.code is.opens.run))
+      (opening-shown u input is.numbers limit turns r is.opens.fits is.bases)
       e
 
   -- ---------- from words to names ----------
@@ -72,27 +72,27 @@ module _ (u : UnitCode) (limit : ℕ) where
   MayGo w s = ((b : named.Branch) × (leaf_at w s ≡ Some b) × (over (stage b) ≡ None)) ⊎ (look u w s ≡ Some Tick)
 
   leaf-goes : (b : Bases) (x : named.Branch) (y : worded.Branch) (st : Stage Held) (st' : Stage ℕ) (p : Ask) → stage x ≡ st → StageR (IsWordOf b) AnyMark st st' → leaf_op (machine u) y st' ≡ Some p → MayGo Here (Leaf x)
-  leaf-goes b x y st (Over g) p e alike ask = none_some ask
+  leaf-goes b x y st (Over g) p e alike ask = none-some ask
   leaf-goes b x y (Over f) (Due n) p e alike ask = absurd alike
   leaf-goes b x y (Due m) (Due n) p e alike ask = inl (x, refl, ap over e)
 
   fork-goes : (b : Bases) (f g : Option (Final Held)) (f' g' : Option (Final ℕ)) (p : Ask) → OptionR (FinalR (IsWordOf b)) f f' → OptionR (FinalR (IsWordOf b)) g g'
       → if_both_over f' g' None (λ x y. Some (machine u).idle) ≡ Some p → if_both_over f g None (λ x y. Some (core u).idle) ≡ Some Tick
-  fork-goes b f g None g' p left right e = none_some e
-  fork-goes b f g (Some x) None p left right e = none_some e
+  fork-goes b f g None g' p left right e = none-some e
+  fork-goes b f g (Some x) None p left right e = none-some e
   fork-goes b None g (Some x) (Some y) p left right e = absurd left
   fork-goes b (Some z) None (Some x) (Some y) p left right e = absurd right
   fork-goes b (Some z) (Some v) (Some x) (Some y) p left right e = refl
 
   goes : (b : Bases) (w : Way) (s : Task) (t : worded.Task) (p : Ask) → TaskR (IsWordOf b) AnyMark s t → word_core.look u w t ≡ Some p → MayGo w s
-  goes b Here (Leaf x) (Leaf y) p alike e = leaf-goes b x y (stage x) (stage y) p refl (stage_alike (IsWordOf b) AnyMark x y alike) e
-  goes b Here (Fork x q l r) (Fork y q' l' r') p alike e = inr (fork-goes b (final l) (final r) (final l') (final r') p (final_alike (IsWordOf b) AnyMark l l' alike.2) (final_alike (IsWordOf b) AnyMark r r' alike.3) e)
+  goes b Here (Leaf x) (Leaf y) p alike e = leaf-goes b x y (stage x) (stage y) p refl (stage-alike (IsWordOf b) AnyMark x y alike) e
+  goes b Here (Fork x q l r) (Fork y q' l' r') p alike e = inr (fork-goes b (final l) (final r) (final l') (final r') p (final-alike (IsWordOf b) AnyMark l l' alike.2) (final-alike (IsWordOf b) AnyMark r r' alike.3) e)
   goes b (GoL w) (Fork x q l r) (Fork y q' l' r') p alike e = goes b w l l' p alike.2 e
   goes b (GoR w) (Fork x q l r) (Fork y q' l' r') p alike e = goes b w r r' p alike.3 e
   goes b w (Leaf x) (Fork y q l r) p alike e = absurd alike
   goes b w (Fork x q l r) (Leaf y) p alike e = absurd alike
-  goes b (GoL w) (Leaf x) (Leaf y) p alike e = none_some e
-  goes b (GoR w) (Leaf x) (Leaf y) p alike e = none_some e
+  goes b (GoL w) (Leaf x) (Leaf y) p alike e = none-some e
+  goes b (GoR w) (Leaf x) (Leaf y) p alike e = none-some e
 
   -- so it has an event there
   event-there : (s : State) (w : Way) → AllHaveNext u limit s → MayGo w s.task → (s' : State) × (step u limit s w ≡ Some s')
@@ -103,7 +103,7 @@ module _ (u : UnitCode) (limit : ℕ) where
   asks t t' w e = by_look (word_core.look u w t.task) refl e
     where
       by_look : (o : Option Ask) → word_core.look u w t.task ≡ o → asked (machine u) worded.memory (within limit) t w o ≡ Some t' → (p : Ask) × (word_core.look u w t.task ≡ Some p)
-      by_look None q e = none_some e
+      by_look None q e = none-some e
       by_look (Some p) q e = (p, q)
 
   pub words-do-no-more : (input : List ℤ) (turns : ℕ) (r : Routine) → OpensOnWords u limit input r → (ws : List Way) (s : State) (b : Bases) (t t' : worded.State) (w : Way)
@@ -113,4 +113,4 @@ module _ (u : UnitCode) (limit : ℕ) where
       let ask = asks t t' w event in
       let next = event-there s w all (goes b w s.task t.task ask.0 shown.task ask.1) in
       let on = words-follow input turns r is ws s next.0 b t w e shown next.1 in
-      (next.0, next.1, on.bases, on.grown, subst (IsShownBy on.bases next.0) (some_inj (sym on.event ∙ event)) on.shown)
+      (next.0, next.1, on.bases, on.grown, subst (IsShownBy on.bases next.0) (some-inj (sym on.event ∙ event)) on.shown)

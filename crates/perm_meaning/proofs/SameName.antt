@@ -11,55 +11,55 @@ together true b e q = q
 together false b e q = absurd (cc)
 
 -- numbers that pass the test are equal
-pub eq_true : (a b : ℕ) → nat_eq a b ≡ true → a ≡ b
-eq_true a b e = grind (arith, nat_tests)
+pub eq-true : (a b : ℕ) → nat_eq a b ≡ true → a ≡ b
+eq-true a b e = grind (arith, nat_tests)
 
 -- those that don't pass it aren't
-pub eq_false : (a b : ℕ) → nat_eq a b ≡ false → a ≡ b → ⊥
-eq_false a b e q = grind (arith, nat_tests)
+pub eq-false : (a b : ℕ) → nat_eq a b ≡ false → a ≡ b → ⊥
+eq-false a b e q = grind (arith, nat_tests)
 
 -- a number is equal to itself
-pub eq_itself : (a : ℕ) → nat_eq a a ≡ true
-eq_itself a = grind (arith, nat_tests)
+pub eq-itself : (a : ℕ) → nat_eq a a ≡ true
+eq-itself a = grind (arith, nat_tests)
 
-side_true : (a b : Side) → same_side a b ≡ true → a ≡ b
-side_true OnLeft OnLeft e = refl
-side_true OnRight OnRight e = refl
-side_true OnLeft OnRight e = absurd (cc)
-side_true OnRight OnLeft e = absurd (cc)
+side-true : (a b : Side) → same_side a b ≡ true → a ≡ b
+side-true OnLeft OnLeft e = refl
+side-true OnRight OnRight e = refl
+side-true OnLeft OnRight e = absurd (cc)
+side-true OnRight OnLeft e = absurd (cc)
 
-side_itself : (a : Side) → same_side a a ≡ true
-side_itself OnLeft = refl
-side_itself OnRight = refl
+side-itself : (a : Side) → same_side a a ≡ true
+side-itself OnLeft = refl
+side-itself OnRight = refl
 
-path_true : (p q : Path) → same_path p q ≡ true → p ≡ q
-path_true [] [] e = refl
-path_true [] (b ∷ q) e = absurd (cc)
-path_true (a ∷ p) [] e = absurd (cc)
-path_true (a ∷ p) (b ∷ q) e =
+path-true : (p q : Path) → same_path p q ≡ true → p ≡ q
+path-true [] [] e = refl
+path-true [] (b ∷ q) e = absurd (cc)
+path-true (a ∷ p) [] e = absurd (cc)
+path-true (a ∷ p) (b ∷ q) e =
     let x = and_parts (nat_eq a.0 b.0 && same_side a.1 b.1) (same_path p q) e in
     let y = and_parts (nat_eq a.0 b.0) (same_side a.1 b.1) x.0 in
-    let n = eq_true a.0 b.0 y.0 in
-    let s = side_true a.1 b.1 y.1 in
-    let r = path_true p q x.1 in
+    let n = eq-true a.0 b.0 y.0 in
+    let s = side-true a.1 b.1 y.1 in
+    let r = path-true p q x.1 in
     λ i. (n i, s i) ∷ r i
 
-path_itself : (p : Path) → same_path p p ≡ true
-path_itself [] = refl
-path_itself (a ∷ p) = together (nat_eq a.0 a.0 && same_side a.1 a.1) (same_path p p) (together (nat_eq a.0 a.0) (same_side a.1 a.1) (eq_itself a.0) (side_itself a.1)) (path_itself p)
+path-itself : (p : Path) → same_path p p ≡ true
+path-itself [] = refl
+path-itself (a ∷ p) = together (nat_eq a.0 a.0 && same_side a.1 a.1) (same_path p p) (together (nat_eq a.0 a.0) (same_side a.1 a.1) (eq-itself a.0) (side-itself a.1)) (path-itself p)
 
 -- names that pass the test are one
-pub name_true : (a b : Name) → same_name a b ≡ true → a ≡ b
-name_true a b e =
+pub name-true : (a b : Name) → same_name a b ≡ true → a ≡ b
+name-true a b e =
     let x = and_parts (nat_eq a.count b.count) (same_path a.by b.by) e in
-    let n = eq_true a.count b.count x.0 in
-    let p = path_true a.by b.by x.1 in
+    let n = eq-true a.count b.count x.0 in
+    let p = path-true a.by b.by x.1 in
     λ i. record { by = p i; count = n i }
 
 -- a name is itself
-pub name_itself : (a : Name) → same_name a a ≡ true
-name_itself a = together (nat_eq a.count a.count) (same_path a.by a.by) (eq_itself a.count) (path_itself a.by)
+pub name-itself : (a : Name) → same_name a a ≡ true
+name-itself a = together (nat_eq a.count a.count) (same_path a.by a.by) (eq-itself a.count) (path-itself a.by)
 
 -- names that don't pass it aren't one
-pub name_false : (a b : Name) → same_name a b ≡ false → a ≡ b → ⊥
-name_false a b e q = let x = sym e ∙ ap (same_name a) (sym q) ∙ name_itself a in absurd (cc)
+pub name-false : (a b : Name) → same_name a b ≡ false → a ≡ b → ⊥
+name-false a b e q = let x = sym e ∙ ap (same_name a) (sym q) ∙ name-itself a in absurd (cc)

@@ -9,7 +9,7 @@ use Rattle.perm_meaning.specs.WordHeap.{opening_word, input_word, root_word}
 use Rattle.perm_meaning.specs.Words.{number_word, reference_word}
 use Rattle.perm_step.specs.Rounds.{IsOpened}
 use Rattle.perm_step.specs.Workspace.{Workspace, locals}
-use Rattle.perm_meaning.proofs.OnWords.OpeningShown.{past_input}
+use Rattle.perm_meaning.proofs.OnWords.OpeningShown.{past-input}
 use Rattle.perm_step.proofs.Cells.{more_words}
 
 -- ---------- the words of the opening ----------
@@ -70,7 +70,7 @@ opened fields input old made written more rooted new base root fresh making writ
     by i (inl inside) = ap (λ (ws : List ℕ). get_or ws i 0) new_words ∙ more_words written.words (size fields) i ∙ within i inside ∙ sym (opening_at input i inside)
     by i (inr behind) =
         ap (λ (ws : List ℕ). get_or ws i 0) new_words ∙ more_words written.words (size fields) i ∙ past i behind ∙ ap (λ (ws : List ℕ). get_or ws i 0) made_words ∙ zeros (size (length input)) i
-        ∙ sym (past_input input i behind)
+        ∙ sym (past-input input i behind)
 
     others : new ≡ record old { vars = new.vars; words = new.words }
     others =

@@ -23,7 +23,7 @@ use Rattle.perm_meaning.specs.Steps.{Found, Refused, within}
 use Rattle.perm_meaning.specs.Meaning.{Moment, Result, Well, Gave, Handed, Fails, Full, Stuck, then_do, answered, doing, does}
 use Rattle.perm_step.specs.declared.straight.Holds.{Holds}
 use Rattle.perm_step.specs.Straight.{AnObject, ANumber, IsSum, IsStraightCode}
-use Rattle.perm_meaning.proofs.SameName.{name_itself}
+use Rattle.perm_meaning.proofs.SameName.{name-itself}
 use Rattle.perm_step.proofs.StraightMoments.{Stands, AreFresh, fresh-add, fresh-put, IsOf64Bits, IsLongValue, HasLongs, HasValue, AreLong, AllLongValues, Fits, AllFit, AllFit-declare, AllFit-kept, object-at, number-at, field-at, add-keeps, put-keeps, pos-of_64, sum-of_64, first-longs, length-first}
 
 -- ---------- how straight code may end ----------
@@ -130,7 +130,7 @@ module _ (u : UnitCode) (limit : ℕ) (again : Code → Moment → Result) (type
         grown = add same_name h.objects name (new_object u (Class 0) fields)
 
         here : HasLongs fields (grown name)
-        here = subst (λ b. HasLongs fields (this_or b (new_object u (Class 0) fields) (h.objects name))) (sym (name_itself name)) new-longs
+        here = subst (λ b. HasLongs fields (this_or b (new_object u (Class 0) fields) (h.objects name))) (sym (name-itself name)) new-longs
 
         by_room : (b : Bool) → nat_le (h.given + size fields) limit ≡ b
             → Made (answered u (within limit) again (cond b (Found (Some (Reference name 0))) Refused) (Make l.mark (Class 0) fields) at (made tagged marks x l) now)

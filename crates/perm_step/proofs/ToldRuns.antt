@@ -20,9 +20,9 @@ use Rattle.perm_meaning.specs.Objects.{size}
 use Rattle.perm_meaning.specs.Shows.{HeapShown}
 use Rattle.perm_meaning.specs.WordHeap.{Cells, State, worded, memory, opening_state, root_word}
 use Rattle.perm_meaning.specs.Words.{number_in}
-use Rattle.perm_meaning.proofs.LeftFirst.Determined.{determined, over_at_rest, refused_at_rest}
-use Rattle.perm_meaning.proofs.Leads.{some_inj, ended_no_event}
-use Rattle.perm_meaning.proofs.OnWords.WordsRun.{words_end_as_meaning, words_fill_as_meaning}
+use Rattle.perm_meaning.proofs.LeftFirst.Determined.{determined, over-at-rest, refused-at-rest}
+use Rattle.perm_meaning.proofs.Leads.{some-inj, ended-no-event}
+use Rattle.perm_meaning.proofs.OnWords.WordsRun.{words-end-as-meaning, words-fill-as-meaning}
 use Rattle.perm_step.specs.declared.machine.Halt.{Halt}
 use Rattle.perm_step.specs.declared.machine.Halt.TheVariants.{Ended, NoMemory}
 use Rattle.perm_step.specs.Straight.{IsStraight}
@@ -54,8 +54,8 @@ module _ (u : Tables) (s : IsStraight u) (input : List ℤ) (turns limit : ℕ) 
   -- a run that has ended doesn't come to a refused allocation
   apart : (t : State) (f : Final ℕ) → Leads (worded Copies (code_of u)) memory (within limit) opened t → final t.task ≡ Some f → Fills (code_of u) limit opened → ⊥
   apart t f run over (t', a, run', asks, refused) =
-      let same = determined (worded Copies (code_of u)) memory (within limit) run.0 run'.0 opened t t' run.1 (over_at_rest (worded Copies (code_of u)) memory (within limit) t f over) run'.1 (refused_at_rest (worded Copies (code_of u)) memory (within limit) t' a asks refused) in
-      let none = ended_no_event (worded Copies (code_of u)) (leftmost t'.task) t'.task f (ap (λ (x : State). final x.task) (sym same.1) ∙ over) in
+      let same = determined (worded Copies (code_of u)) memory (within limit) run.0 run'.0 opened t t' run.1 (over-at-rest (worded Copies (code_of u)) memory (within limit) t f over) run'.1 (refused-at-rest (worded Copies (code_of u)) memory (within limit) t' a asks refused) in
+      let none = ended-no-event (worded Copies (code_of u)) (leftmost t'.task) t'.task f (ap (λ (x : State). final x.task) (sym same.1) ∙ over) in
       let no : None ≡ Some a = sym none ∙ asks in
       cc
 
@@ -65,12 +65,12 @@ module _ (u : Tables) (s : IsStraight u) (input : List ℤ) (turns limit : ℕ) 
     where
       told : (r : Report) → EndsOnWords (code_of u) limit input turns (start u s) r → ComesTo (code_of u) limit opened m f → Tells (Ran r) o
       told r w (t, run, over, heap) =
-          let same = determined (worded Copies (code_of u)) memory (within limit) run.0 w.events opened t w.state run.1 (over_at_rest (worded Copies (code_of u)) memory (within limit) t f over) w.run (over_at_rest (worded Copies (code_of u)) memory (within limit) w.state w.ending w.over) in
-          let ending : f ≡ w.ending = some_inj (sym over ∙ ap (λ (x : State). final x.task) same.1 ∙ w.over) in
+          let same = determined (worded Copies (code_of u)) memory (within limit) run.0 w.events opened t w.state run.1 (over-at-rest (worded Copies (code_of u)) memory (within limit) t f over) w.run (over-at-rest (worded Copies (code_of u)) memory (within limit) w.state w.ending w.over) in
+          let ending : f ≡ w.ending = some-inj (sym over ∙ ap (λ (x : State). final x.task) same.1 ∙ w.over) in
           let cells : w.state.heap ≡ cells_of o.words = ap (λ (x : State). x.heap) (sym same.1) ∙ heap ∙ ap cells_of (sym report.words) in
           let base : suc (size (length input)) < 2 ^ 32 = omega (arith, fits, small) in
           record {
-            ending = report.ending ∙ some_inj (sym is ∙ ap told_end ending ∙ w.told.ending);
+            ending = report.ending ∙ some-inj (sym is ∙ ap told_end ending ∙ w.told.ending);
             printed = report.printed ∙ sym printed ∙ ap printed_of ending ∙ w.told.printed;
             spent = report.spent ∙ ap (λ n. turns - n) (sym left ∙ ap turns_of ending) ∙ w.told.spent;
             need = report.need ∙ ap (λ (c : Cells). c.given) (sym heap) ∙ ap (λ (x : State). x.heap.given) same.1 ∙ w.told.need;
@@ -80,9 +80,9 @@ module _ (u : Tables) (s : IsStraight u) (input : List ℤ) (turns limit : ℕ) 
           }
 
       by : (x : meaning.Outcome) → meant ≡ x → Tells x o
-      by (Ran r) q = told r (words_end_as_meaning (code_of u) limit input turns (start u s) r (begins numbers fits) q) comes
+      by (Ran r) q = told r (words-end-as-meaning (code_of u) limit input turns (start u s) r (begins numbers fits) q) comes
       by RanFull q =
-          let full = words_fill_as_meaning (code_of u) limit input turns (start u s) (begins numbers fits) q in
+          let full = words-fill-as-meaning (code_of u) limit input turns (start u s) (begins numbers fits) q in
           absurd (apart comes.0 f comes.1 comes.2 (full.1, full.2, (full.0, full.3), full.4, full.5))
       by RanStuck q = absurd (straight_not_stuck u s input turns limit q)
 
@@ -92,7 +92,7 @@ module _ (u : Tables) (s : IsStraight u) (input : List ℤ) (turns limit : ℕ) 
     where
       by : (x : meaning.Outcome) → meant ≡ x → Tells x o
       by (Ran r) q =
-          let w = words_end_as_meaning (code_of u) limit input turns (start u s) r (begins numbers fits) q in
+          let w = words-end-as-meaning (code_of u) limit input turns (start u s) r (begins numbers fits) q in
           absurd (apart w.state w.ending (w.events, w.run) w.over fills)
       by RanFull q = full
       by RanStuck q = absurd (straight_not_stuck u s input turns limit q)

@@ -3,7 +3,7 @@ use Rattle.std.proofs.Common.{◌≡◌, ◌≢◌, ℕ, ◌≤◌, Some, [], �
 use Rattle.perm_meaning.specs.Names.{Path, Side, OnLeft, OnRight, next_name}
 use Rattle.perm_meaning.specs.Machine.{Leaf, Fork, Way, Here, GoL, GoR}
 use Rattle.perm_meaning.specs.NamedHeap.{Branch, Task}
-use Rattle.perm_meaning.proofs.Leads.{some_inj, none_some}
+use Rattle.perm_meaning.proofs.Leads.{some-inj, none-some}
 use Rattle.perm_core.specs.Claims.{leaf_at}
 use Rattle.perm_core.specs.Picture.{IsBelow, MayGive, next, MayBeGiven, path_of, PathsFit}
 use Rattle.perm_core.proofs.Commute.TwoNodes.{AreApart}
@@ -42,18 +42,18 @@ left-not-right a b e l r = let same = ap (λ (q : ℕ × Side). q.1) e in absurd
 
 -- ---------- leaves ----------
 pub may-be-given : (w : Way) (t : Task) (b : Branch) → leaf_at w t ≡ Some b → MayBeGiven t (next_name b.own.mark)
-may-be-given Here (Leaf a) b e = subst (λ z. MayGive a.own.mark (next_name z.own.mark)) (some_inj e) (next a.own.mark.made (le_refl a.own.mark.made))
-may-be-given Here (Fork a p l r) b e = none_some e
-may-be-given (GoL w) (Leaf a) b e = none_some e
-may-be-given (GoR w) (Leaf a) b e = none_some e
+may-be-given Here (Leaf a) b e = subst (λ z. MayGive a.own.mark (next_name z.own.mark)) (some-inj e) (next a.own.mark.made (le_refl a.own.mark.made))
+may-be-given Here (Fork a p l r) b e = none-some e
+may-be-given (GoL w) (Leaf a) b e = none-some e
+may-be-given (GoR w) (Leaf a) b e = none-some e
 may-be-given (GoL w) (Fork a p l r) b e = inr (inl (may-be-given w l b e))
 may-be-given (GoR w) (Fork a p l r) b e = inr (inr (may-be-given w r b e))
 
 leaf-below : (w : Way) (t : Task) (b : Branch) → PathsFit t → leaf_at w t ≡ Some b → IsBelow (path_of t) b.own.mark.path
-leaf-below Here (Leaf a) b fit e = subst (λ z. IsBelow a.own.mark.path z.own.mark.path) (some_inj e) (below-itself a.own.mark.path)
-leaf-below Here (Fork a p l r) b fit e = none_some e
-leaf-below (GoL w) (Leaf a) b fit e = none_some e
-leaf-below (GoR w) (Leaf a) b fit e = none_some e
+leaf-below Here (Leaf a) b fit e = subst (λ z. IsBelow a.own.mark.path z.own.mark.path) (some-inj e) (below-itself a.own.mark.path)
+leaf-below Here (Fork a p l r) b fit e = none-some e
+leaf-below (GoL w) (Leaf a) b fit e = none-some e
+leaf-below (GoR w) (Leaf a) b fit e = none-some e
 leaf-below (GoL w) (Fork a p l r) b fit e = below-parent (fit.0, OnLeft) a.own.mark.path b.own.mark.path (subst (λ q. IsBelow q b.own.mark.path) fit.2 (leaf-below w l b fit.4 e))
 leaf-below (GoR w) (Fork a p l r) b fit e = below-parent (fit.0, OnRight) a.own.mark.path b.own.mark.path (subst (λ q. IsBelow q b.own.mark.path) fit.3 (leaf-below w r b fit.5 e))
 
@@ -62,8 +62,8 @@ pub paths-differ : (p q : Way) (t : Task) (a b : Branch) → PathsFit t → AreA
 paths-differ Here q t a b fit apart e f same = apart
 paths-differ (GoL p) Here t a b fit apart e f same = apart
 paths-differ (GoR p) Here t a b fit apart e f same = apart
-paths-differ (GoL p) q (Leaf c) a b fit apart e f same = none_some e
-paths-differ (GoR p) q (Leaf c) a b fit apart e f same = none_some e
+paths-differ (GoL p) q (Leaf c) a b fit apart e f same = none-some e
+paths-differ (GoR p) q (Leaf c) a b fit apart e f same = none-some e
 paths-differ (GoL p) (GoL q) (Fork c x l r) a b fit apart e f same = paths-differ p q l a b fit.4 apart e f same
 paths-differ (GoR p) (GoR q) (Fork c x l r) a b fit apart e f same = paths-differ p q r a b fit.5 apart e f same
 paths-differ (GoL p) (GoR q) (Fork c x l r) a b fit apart e f same =

@@ -10,7 +10,7 @@ use Rattle.perm_meaning.specs.Effects.{Tick, Load, Store, Take, Make}
 use Rattle.perm_meaning.specs.Objects.{size, length_of, field_of}
 use Rattle.perm_meaning.specs.NamedHeap.{Heap, Held, Op, State, memory, has_room, found, found_nothing, find, allocated, after}
 use Rattle.perm_meaning.specs.Steps.{Answer, Found, Refused, Missing, within, next_state, answered, asked}
-use Rattle.perm_meaning.proofs.Leads.{some_inj, none_some}
+use Rattle.perm_meaning.proofs.Leads.{some-inj, none-some}
 use Rattle.perm_core.specs.Core.{core, look, step}
 use Rattle.perm_core.specs.Claims.{Refuses, refused}
 use Rattle.perm_core.proofs.Commute.TwoNodes.{AreApart, apart-turned, two-events-apart, look-beside, fills-turned}
@@ -89,9 +89,9 @@ module _ (u : UnitCode) (limit : ℕ) where
   finds s a w o e g happens = go (find fits o s.heap) refl (sym (ap (λ z. asked (core u) (memory u) fits s w z) e) ∙ happens)
     where
       go : (x : Answer Held) → find fits o s.heap ≡ x → answer s w o x ≡ Some a → Finds s w o a
-      go (Found v) q k = record { value = v; is = q; end = some_inj k }
+      go (Found v) q k = record { value = v; is = q; end = some-inj k }
       go Refused q k = absurd (granted-unrefused o s.heap g q)
-      go Missing q k = none_some k
+      go Missing q k = none-some k
 
   happens-so : (s : State) (w : Way) (o : Op) (v : Held) → look u w s.task ≡ Some o → find fits o s.heap ≡ Found v → step u limit s w ≡ Some (next s w o (Some v))
   happens-so s w o v e q = ap (λ z. asked (core u) (memory u) fits s w z) e ∙ ap (λ z. answer s w o z) q
@@ -102,9 +102,9 @@ module _ (u : UnitCode) (limit : ℕ) where
   moved s a w o e happens = go (find fits o s.heap) (sym (ap (λ z. asked (core u) (memory u) fits s w z) e) ∙ happens)
     where
       go : (x : Answer Held) → answer s w o x ≡ Some a → (v : Option Held) × (next s w o v ≡ a)
-      go (Found v) k = (Some v, some_inj k)
-      go Refused k = (None, some_inj k)
-      go Missing k = none_some k
+      go (Found v) k = (Some v, some-inj k)
+      go Refused k = (None, some-inj k)
+      go Missing k = none-some k
 
   -- what isn't refused after the event of another node was granted after it
   granted-then : (s a : State) (p q : Way) (o v : Op) → AreApart q p → look u p s.task ≡ Some o → look u q s.task ≡ Some v → step u limit s p ≡ Some a → (Refuses u limit a q → ⊥) → IsGranted u fits v (after u fits o s.heap)

@@ -1,7 +1,7 @@
 -- Two nodes with events stand apart in the tree: the event of the one leaves that of the other as it is, and what both make of the tree doesn't depend on their order.
 use Rattle.std.proofs.Common.{◌≡◌, ◌≢◌, Option, Some, refl, sym, ap, ◌∙◌}
 use Rattle.perm_meaning.specs.Machine.{Task, Leaf, Fork, Way, Here, GoL, GoR, Machine, look, fill}
-use Rattle.perm_meaning.proofs.Leads.{none_some, ended_no_event}
+use Rattle.perm_meaning.proofs.Leads.{none-some, ended-no-event}
 use Rattle.perm_core.proofs.Pieces.HeldEvents.{join-sides}
 
 -- neither of the nodes is above the other
@@ -24,17 +24,17 @@ apart-turned (GoR p) (GoL q) h = tt
 module _ {V G O : Type 0} (m : Machine V G O) where
   pub two-events-apart : (p q : Way) (t : Task V G) (o u : O) → p ≢ q → look m p t ≡ Some o → look m q t ≡ Some u → AreApart p q
   two-events-apart Here Here t o u d h k = d refl
-  two-events-apart Here (GoL w) (Leaf b) o u d h k = none_some k
-  two-events-apart Here (GoL w) (Fork b p l r) o u d h k = let j = join-sides m l r b p o h in none_some (sym (ended_no_event m w l j.0 j.2) ∙ k)
-  two-events-apart Here (GoR w) (Leaf b) o u d h k = none_some k
-  two-events-apart Here (GoR w) (Fork b p l r) o u d h k = let j = join-sides m l r b p o h in none_some (sym (ended_no_event m w r j.1 j.3) ∙ k)
-  two-events-apart (GoL w) Here (Leaf b) o u d h k = none_some h
-  two-events-apart (GoL w) Here (Fork b p l r) o u d h k = let j = join-sides m l r b p u k in none_some (sym (ended_no_event m w l j.0 j.2) ∙ h)
-  two-events-apart (GoR w) Here (Leaf b) o u d h k = none_some h
-  two-events-apart (GoR w) Here (Fork b p l r) o u d h k = let j = join-sides m l r b p u k in none_some (sym (ended_no_event m w r j.1 j.3) ∙ h)
-  two-events-apart (GoL v) (GoL w) (Leaf b) o u d h k = none_some h
+  two-events-apart Here (GoL w) (Leaf b) o u d h k = none-some k
+  two-events-apart Here (GoL w) (Fork b p l r) o u d h k = let j = join-sides m l r b p o h in none-some (sym (ended-no-event m w l j.0 j.2) ∙ k)
+  two-events-apart Here (GoR w) (Leaf b) o u d h k = none-some k
+  two-events-apart Here (GoR w) (Fork b p l r) o u d h k = let j = join-sides m l r b p o h in none-some (sym (ended-no-event m w r j.1 j.3) ∙ k)
+  two-events-apart (GoL w) Here (Leaf b) o u d h k = none-some h
+  two-events-apart (GoL w) Here (Fork b p l r) o u d h k = let j = join-sides m l r b p u k in none-some (sym (ended-no-event m w l j.0 j.2) ∙ h)
+  two-events-apart (GoR w) Here (Leaf b) o u d h k = none-some h
+  two-events-apart (GoR w) Here (Fork b p l r) o u d h k = let j = join-sides m l r b p u k in none-some (sym (ended-no-event m w r j.1 j.3) ∙ h)
+  two-events-apart (GoL v) (GoL w) (Leaf b) o u d h k = none-some h
   two-events-apart (GoL v) (GoL w) (Fork b p l r) o u d h k = two-events-apart v w l o u (λ e. d (ap (λ z. GoL z) e)) h k
-  two-events-apart (GoR v) (GoR w) (Leaf b) o u d h k = none_some h
+  two-events-apart (GoR v) (GoR w) (Leaf b) o u d h k = none-some h
   two-events-apart (GoR v) (GoR w) (Fork b p l r) o u d h k = two-events-apart v w r o u (λ e. d (ap (λ z. GoR z) e)) h k
   two-events-apart (GoL v) (GoR w) t o u d h k = tt
   two-events-apart (GoR v) (GoL w) t o u d h k = tt

@@ -8,7 +8,7 @@ use Rattle.perm_meaning.specs.Objects.{Object, size, new_object, length_of, valu
 use Rattle.perm_meaning.specs.Effects.{Tick, Load, Store, Take, Make}
 use Rattle.perm_meaning.specs.NamedHeap.{Heap, Op, has_room, found, found_nothing, find, allocated, after}
 use Rattle.perm_meaning.specs.Steps.{Found, Refused}
-use Rattle.perm_meaning.proofs.SameName.{name_true}
+use Rattle.perm_meaning.proofs.SameName.{name-true}
 use Rattle.perm_core.specs.Core.{Writes, Touches}
 
 -- the operation makes the object
@@ -125,8 +125,8 @@ module _ (u : UnitCode) (fits : ℕ → Bool) where
   sets-writes Tick n f h = h
   sets-writes (Load r g) n f h = h
   sets-writes (Store r g None) n f h = absurd h
-  sets-writes (Store r g (Some v)) n f h = (sym (name_true n r h.0), h.1)
-  sets-writes (Take r g) n f h = (sym (name_true n r h.0), h.1)
+  sets-writes (Store r g (Some v)) n f h = (sym (name-true n r h.0), h.1)
+  sets-writes (Take r g) n f h = (sym (name-true n r h.0), h.1)
   sets-writes (Make by shape k) n f h = h
 
   begins-makes : (o : Op) (n : Name) → IsBeginning (change o n) → Makes o n
@@ -135,7 +135,7 @@ module _ (u : UnitCode) (fits : ℕ → Bool) where
   begins-makes (Store r g None) n h = h
   begins-makes (Store r g (Some v)) n h = h
   begins-makes (Take r g) n h = h
-  begins-makes (Make by shape k) n h = sym (name_true n (next_name by) h)
+  begins-makes (Make by shape k) n h = sym (name-true n (next_name by) h)
 
   -- the heap after a granted operation
   abbrev left_by : Op → Heap → Heap

@@ -7,7 +7,7 @@ use Rattle.perm_rules.specs.declared.ParMode.TheVariants.{Symmetric, LeftAlone, 
 use Rattle.perm_meaning.specs.Names.{Side, OnLeft, OnRight}
 use Rattle.perm_meaning.specs.Machine.{Frame, OpenBlock, OpenRecover, OpenCall, Leaf, Fork, Way, Here, GoL, GoR}
 use Rattle.perm_meaning.specs.NamedHeap.{Held, Task}
-use Rattle.perm_meaning.proofs.Leads.{some_inj, none_some}
+use Rattle.perm_meaning.proofs.Leads.{some-inj, none-some}
 use Rattle.perm_core.specs.Regions.{Zone, Base, Under, Region, Frozen, OwnOf, OfVariable, zones, top_zone, left_zone, right_zone}
 use Rattle.perm_core.specs.Picture.{mode_in}
 use Rattle.perm_core.proofs.Commute.TwoNodes.{AreApart}
@@ -279,10 +279,10 @@ module _ (u : UnitCode) where
 
   written-at : (w : Way) (t : Task) (at : Way → Way) (z y : Zone) (r : Region) → zone_at at z w t ≡ Some y → MayWrite (at w) y r → IsWritten at z r
   written-at w t at z y r e (inr h) = inl (variable w h.0 h.1 h.2)
-  written-at Here (Leaf b) at z y r e (inl h) = written-top at z b.stack r (inr (h ∙ ap (λ q. OwnOf q) (sym (some_inj e))))
-  written-at Here (Fork b p l k) at z y r e (inl h) = none_some e
-  written-at (GoL w) (Leaf b) at z y r e (inl h) = none_some e
-  written-at (GoR w) (Leaf b) at z y r e (inl h) = none_some e
+  written-at Here (Leaf b) at z y r e (inl h) = written-top at z b.stack r (inr (h ∙ ap (λ q. OwnOf q) (sym (some-inj e))))
+  written-at Here (Fork b p l k) at z y r e (inl h) = none-some e
+  written-at (GoL w) (Leaf b) at z y r e (inl h) = none-some e
+  written-at (GoR w) (Leaf b) at z y r e (inl h) = none-some e
   written-at (GoL w) (Fork b p l k) at z y r e (inl h) =
       let top = top_zone (at Here) z b.stack in
       let m = mode_in u b.own.routine p in
@@ -295,10 +295,10 @@ module _ (u : UnitCode) where
   touched-at : (w : Way) (t : Task) (at : Way → Way) (z y : Zone) (r : Region) → zone_at at z w t ≡ Some y → MayTouch (at w) y r → IsTouched at z r
   touched-at w t at z y r e (write h) = written (written-at w t at z y r e h)
   touched-at w t at z y r e (frozen h) = frozen h
-  touched-at Here (Leaf b) at z y r e (across x h reads) = touched-top at z b.stack r (across x h (subst (λ q. Reads q x) (sym (some_inj e)) reads))
-  touched-at Here (Fork b p l k) at z y r e (across x h reads) = none_some e
-  touched-at (GoL w) (Leaf b) at z y r e (across x h reads) = none_some e
-  touched-at (GoR w) (Leaf b) at z y r e (across x h reads) = none_some e
+  touched-at Here (Leaf b) at z y r e (across x h reads) = touched-top at z b.stack r (across x h (subst (λ q. Reads q x) (sym (some-inj e)) reads))
+  touched-at Here (Fork b p l k) at z y r e (across x h reads) = none-some e
+  touched-at (GoL w) (Leaf b) at z y r e (across x h reads) = none-some e
+  touched-at (GoR w) (Leaf b) at z y r e (across x h reads) = none-some e
   touched-at (GoL w) (Fork b p l k) at z y r e (across x h reads) =
       let top = top_zone (at Here) z b.stack in
       let m = mode_in u b.own.routine p in
@@ -313,8 +313,8 @@ module _ (u : UnitCode) where
   leaves-apart Here q t at z y y' r i above apart e f writes touches = apart
   leaves-apart (GoL p) Here t at z y y' r i above apart e f writes touches = apart
   leaves-apart (GoR p) Here t at z y y' r i above apart e f writes touches = apart
-  leaves-apart (GoL p) q (Leaf b) at z y y' r i above apart e f writes touches = none_some e
-  leaves-apart (GoR p) q (Leaf b) at z y y' r i above apart e f writes touches = none_some e
+  leaves-apart (GoL p) q (Leaf b) at z y y' r i above apart e f writes touches = none-some e
+  leaves-apart (GoR p) q (Leaf b) at z y y' r i above apart e f writes touches = none-some e
   leaves-apart (GoL p) (GoL q) (Fork b x l k) at z y y' r i above apart e f writes touches =
       let top = top_zone (at Here) z b.stack in
       let m = mode_in u b.own.routine x in

@@ -14,7 +14,7 @@ use Rattle.perm_meaning.specs.Names.{Name, Path, Mark, OnLeft, OnRight}
 use Rattle.perm_meaning.specs.Objects.{Objects}
 use Rattle.perm_meaning.specs.Machine.{Blocks, Close, Frame, OpenRecover, OpenCall, Leaf, Fork, Here, GoL, Returning}
 use Rattle.perm_meaning.specs.NamedHeap.{Held, Branch, Task, State}
-use Rattle.perm_meaning.proofs.Leads.{some_inj, none_some}
+use Rattle.perm_meaning.proofs.Leads.{some-inj, none-some}
 use Rattle.perm_core.specs.Core.{step}
 use Rattle.perm_core.specs.Whole.{IsWholeRoutine}
 use Rattle.perm_core.specs.Endings.{ByReturn, tree_ends}
@@ -59,9 +59,9 @@ accepted : unit_refusal u ≡ None
 accepted = refl
 
 whole-routine : (m : ℕ) (r : Routine) → slice_get u.routines m ≡ Some r → IsWholeRoutine u r
-whole-routine zero r e = subst (IsWholeRoutine u) (some_inj e) (record { locals = Ref Isolated (Class 0) ∷ Ref Isolated (Class 0) ∷ Long ∷ []; vars = refl; known = refl; returns = refl; calls = refl; scoped = refl })
-whole-routine (suc zero) r e = subst (IsWholeRoutine u) (some_inj e) (record { locals = Long ∷ Long ∷ Ref Immutable Array ∷ []; vars = refl; known = refl; returns = refl; calls = refl; scoped = refl })
-whole-routine (suc (suc m)) r e = none_some e
+whole-routine zero r e = subst (IsWholeRoutine u) (some-inj e) (record { locals = Ref Isolated (Class 0) ∷ Ref Isolated (Class 0) ∷ Long ∷ []; vars = refl; known = refl; returns = refl; calls = refl; scoped = refl })
+whole-routine (suc zero) r e = subst (IsWholeRoutine u) (some-inj e) (record { locals = Long ∷ Long ∷ Ref Immutable Array ∷ []; vars = refl; known = refl; returns = refl; calls = refl; scoped = refl })
+whole-routine (suc (suc m)) r e = none-some e
 
 abbrev none : List Held
 none = None ∷ None ∷ None ∷ None ∷ None ∷ []

@@ -27,7 +27,7 @@ use Rattle.perm_meaning.specs.Effects.{Tick, Load, Store, Take, Make}
 use Rattle.perm_meaning.specs.Machine.{Way, Here}
 use Rattle.perm_meaning.specs.NamedHeap.{Held, Op, State, Heap, has_room, found, find, after}
 use Rattle.perm_meaning.specs.Steps.{Found, Refused, within}
-use Rattle.perm_meaning.proofs.Leads.{some_inj}
+use Rattle.perm_meaning.proofs.Leads.{some-inj}
 use Rattle.perm_core.specs.Claims.{IsChecked}
 use Rattle.perm_core.specs.Endings.{ByReturn, is_by_return}
 use Rattle.perm_core.specs.Regions.{Base, Labels}
@@ -93,7 +93,7 @@ module _ (u : UnitCode) (limit : ℕ) where
       told-answers x q = go e.answer
         where
           go : IsTold limit e.op e.told s.heap → IsAnswer e.op x
-          go (inl (y, (p, f))) = subst (IsAnswer e.op) (some_inj (sym p ∙ q)) (answers (within limit) e.op s.heap y f)
+          go (inl (y, (p, f))) = subst (IsAnswer e.op) (some-inj (sym p ∙ q)) (answers (within limit) e.op s.heap y f)
           go (inr (p, f)) = let z : None ≡ Some x = sym p ∙ q in absurd (let no : ⊥ = cc z in no)
 
       on : Further (λ L. TreeGoes u [] t.task L) is.goes.0 ⊎ ((is_by_return ByReturn ≡ true) × ((L : Vars) × TreeGoes u [] t.task L)) → (H : Vars) × TreeGoes u [] t.task H

@@ -3,7 +3,7 @@ use Rattle.std.proofs.Common.{◌≡◌, Option, Some, None, refl, sym, ap, ◌�
 use Rattle.std.specs.Prelude.{◌⊎◌}
 use Rattle.perm_meaning.specs.Machine.{Branch, Task, Leaf, Fork, Blocks, Way, Here, GoL, GoR, Final, Fine, GaveBack, Failed, Stage, Over, Due, Did, On, Splits, Ends, Dies, Turn, Takes, NoTurn, Machine, stage, final, if_both_over, done, told_to, next_turn, leaf_on, resumed, join_of, look, fill}
 use Rattle.perm_meaning.specs.Steps.{Lone, Run, KeptRight, KeptLeft, lone_task, lone_of, lone_way, lone_on, left_side_way, right_side_way, after_left, after_right, AreOver}
-use Rattle.perm_meaning.proofs.Leads.{none_some, ended_no_event, unended}
+use Rattle.perm_meaning.proofs.Leads.{none-some, ended-no-event, unended}
 use Rattle.perm_core.specs.Pieces.{Numbered, NumberedTree, One, Two, held_task, AllOver, IsAside, IsAsideIn}
 use Rattle.perm_core.proofs.Pieces.Holes.{Round, Hole, OnLeft, OnRight, plug, at_hole}
 
@@ -71,7 +71,7 @@ module _ {V G O : Type 0} (m : Machine V G O) where
           joined-held b (join_of m b p x y)
           ∙ sym (ap (λ z. if_both_over z (final (lone_task r)) (Fork b p (Leaf l) (lone_task r)) (λ x y. resumed m b (join_of m b p x y))) left
           ∙ ap (λ z. if_both_over (Some x) z (Fork b p (Leaf l) (lone_task r)) (λ x y. resumed m b (join_of m b p x y))) right)
-      go None (Some y) left right h e = none_some (sym (ap (λ z. if_both_over z (final (lone_task r)) None (λ x y. Some m.idle)) left) ∙ e)
+      go None (Some y) left right h e = none-some (sym (ap (λ z. if_both_over z (final (lone_task r)) None (λ x y. Some m.idle)) left) ∙ e)
 
   -- ---------- left sides that are kept aside stay ended ----------
   leaf-over : (b : Branch V G) (st : Stage V) (v : Option V) → AreOver (lone_of (leaf_on m b st v))
@@ -112,8 +112,8 @@ module _ {V G O : Type 0} (m : Machine V G O) where
   -- ---------- each event of a tree ----------
   both-over : (x y : Option (Final V)) (o : O) → if_both_over x y None (λ x y. Some m.idle) ≡ Some o → (f : Final V) × (g : Final V) × (x ≡ Some f) × (y ≡ Some g)
   both-over (Some f) (Some g) o h = (f, g, refl, refl)
-  both-over (Some f) None o h = none_some h
-  both-over None y o h = none_some h
+  both-over (Some f) None o h = none-some h
+  both-over None y o h = none-some h
 
   pub join-sides : (l r : Task V G) (b : Branch V G) (p : Blocks) (o : O) → look m Here (Fork b p l r) ≡ Some o → (f : Final V) × (g : Final V) × (final l ≡ Some f) × (final r ≡ Some g)
   join-sides l r b p o h = both-over (final l) (final r) o h
@@ -121,8 +121,8 @@ module _ {V G O : Type 0} (m : Machine V G O) where
   -- of the tree of one holder
   own-way : (x : Lone V G) (w : Way) (o : O) → AreOver x → look m w (lone_task x) ≡ Some o → (w ≡ lone_way x) ⊎ IsAside x w
   own-way (Run b) Here o over e = inl refl
-  own-way (Run b) (GoL w) o over e = none_some e
-  own-way (Run b) (GoR w) o over e = none_some e
+  own-way (Run b) (GoL w) o over e = none-some e
+  own-way (Run b) (GoR w) o over e = none-some e
   own-way (KeptRight b p l r) Here o over e =
       let j = join-sides (lone_task l) (Leaf r) b p o e in
       inl (sym (ap (λ z. left_side_way z (final (Leaf r)) (lone_way l)) j.2 ∙ ap (λ z. left_side_way (Some j.0) z (lone_way l)) j.3))
@@ -135,7 +135,7 @@ module _ {V G O : Type 0} (m : Machine V G O) where
   own-way (KeptLeft b p l r) Here o over e =
       let j = join-sides (Leaf l) (lone_task r) b p o e in
       inl (sym (ap (λ z. right_side_way z (lone_way r)) j.3))
-  own-way (KeptLeft b p l r) (GoL w) o over e = none_some (sym (ended_no_event m w (Leaf l) over.0.0 over.0.1) ∙ e)
+  own-way (KeptLeft b p l r) (GoL w) o over e = none-some (sym (ended-no-event m w (Leaf l) over.0.0 over.0.1) ∙ e)
   own-way (KeptLeft b p l r) (GoR w) o over e = go (own-way r w o over.1 e)
     where
       go : (w ≡ lone_way r) ⊎ IsAside r w → (GoR w ≡ right_side_way (final (lone_task r)) (lone_way r)) ⊎ IsAside r w
@@ -144,9 +144,9 @@ module _ {V G O : Type 0} (m : Machine V G O) where
 
   leaf-is : (h : NumberedTree V G) (f : Final V) → final (held_task h) ≡ Some f → (b : Branch V G) × (h ≡ One (Run b))
   leaf-is (One (Run b)) f e = (b, refl)
-  leaf-is (One (KeptRight b p l r)) f e = none_some e
-  leaf-is (One (KeptLeft b p l r)) f e = none_some e
-  leaf-is (Two w l r) f e = none_some e
+  leaf-is (One (KeptRight b p l r)) f e = none-some e
+  leaf-is (One (KeptLeft b p l r)) f e = none-some e
+  leaf-is (Two w l r) f e = none-some e
 
   pub each-event : (h : NumberedTree V G) (w : Way) (o : O) → AllOver h → look m w (held_task h) ≡ Some o → AtHolder h w ⊎ (AtJoin h w ⊎ IsAsideIn h w)
   each-event (One x) w o over e = go (own-way x w o over e)

@@ -2,7 +2,7 @@
 use Rattle.std.proofs.Common.{◌≡◌, ℕ, suc, ◌+◌, Option, Some, None, List, [], ◌∷◌, refl, sym, ap, ◌∙◌, arith}
 use Rattle.perm_meaning.specs.Machine.{Branch, Task, Leaf, Fork, Blocks, Way, Here, GoL, GoR, Final, Fine, GaveBack, Failed, Stage, Over, Due, Did, On, Splits, Ends, Dies, Turn, Takes, NoTurn, Machine, stage, final, turns_of, if_both_over, done, told_to, turn_op, next_turn, leaf_op, leaf_on, resumed, join_of, look, fill}
 use Rattle.perm_meaning.specs.Steps.{lone_task, lone_of, lone_way}
-use Rattle.perm_meaning.proofs.Leads.{some_inj, none_some}
+use Rattle.perm_meaning.proofs.Leads.{some-inj, none-some}
 use Rattle.perm_core.specs.Bag.{times, total}
 use Rattle.perm_core.specs.Pieces.{Foot, AtRoot, Numbered, NumberedTree, One, Two, held_task, cut, numbers, at_foot, numbers_of, feet_of, parents_of, turns_in, turns_of_piece, turn_at, IsAlone}
 use Rattle.perm_core.specs.PieceLaws.{NumbersOfPieces, TurnsOfPieces, TakesTurns, SplitTakes, JoinReturns, AsksAtLeaf}
@@ -46,7 +46,7 @@ module _ {V G : Type 0} where
   -- a leaf that is over has the turns of its end
   pub final-turns : (t : Task V G) (f : Final V) → final t ≡ Some f → turns_in t ≡ turns_of f
   final-turns (Leaf b) f e = sym (over-turns b.close b.code b.stack b.turns b.own f e)
-  final-turns (Fork b p l r) f e = none_some e
+  final-turns (Fork b p l r) f e = none-some e
 
 module _ {V G O : Type 0} (m : Machine V G O) where
   -- ---------- one event ----------
@@ -57,13 +57,13 @@ module _ {V G O : Type 0} (m : Machine V G O) where
   done-turns b t (Dies e) = refl
 
   told-turns : (b : Branch V G) (t : ℕ) (turn : Turn V G O) (o : O) (v : Option V) → turn_op m turn ≡ Some o → turns_in (told_to m b t turn v) ≡ t
-  told-turns b t NoTurn o v e = none_some e
+  told-turns b t NoTurn o v e = none-some e
   told-turns b t (Takes q told) o None e = refl
   told-turns b t (Takes q told) o (Some v) e = done-turns b t (told v)
 
   -- the event of a leaf takes one turn
   pub leaf-turns : (b : Branch V G) (st : Stage V) (o : O) (v : Option V) → stage b ≡ st → leaf_op m b st ≡ Some o → suc (turns_in (leaf_on m b st v)) ≡ b.turns
-  leaf-turns b (Over f) o v is e = none_some e
+  leaf-turns b (Over f) o v is e = none-some e
   leaf-turns b (Due t) o v is e =
       let turns : b.turns ≡ suc t = due-turns b.close b.code b.stack b.turns t b.own is in
       let same : turns_in (told_to m b t (next_turn m b) v) ≡ t = told-turns b t (next_turn m b) o v e in
@@ -80,8 +80,8 @@ module _ {V G O : Type 0} (m : Machine V G O) where
 
   fork-turns : (b : Branch V G) (p : Blocks) (l r : Task V G) (f g : Option (Final V)) (o : O) → final l ≡ f → final r ≡ g → if_both_over f g None (λ x y. Some m.idle) ≡ Some o
       → turns_in (if_both_over f g (Fork b p l r) (λ x y. resumed m b (join_of m b p x y))) + 0 ≡ turns_in l + turns_in r
-  fork-turns b p l r None g o left right e = none_some e
-  fork-turns b p l r (Some x) None o left right e = none_some e
+  fork-turns b p l r None g o left right e = none-some e
+  fork-turns b p l r (Some x) None o left right e = none-some e
   fork-turns b p l r (Some x) (Some y) o left right e =
       let both = joined-turns b p x y in
       let first = final-turns l x left in
@@ -92,23 +92,23 @@ module _ {V G O : Type 0} (m : Machine V G O) where
   pub event-turns : (w : Way) (t : Task V G) (o : O) (v : Option V) → look m w t ≡ Some o → turns_in (fill m w t v) + turn_at w t ≡ turns_in t
   event-turns Here (Leaf b) o v e = let h = leaf-turns b (stage b) o v refl e in omega arith
   event-turns Here (Fork b p l r) o v e = fork-turns b p l r (final l) (final r) o refl refl e
-  event-turns (GoL w) (Leaf b) o v e = none_some e
-  event-turns (GoR w) (Leaf b) o v e = none_some e
+  event-turns (GoL w) (Leaf b) o v e = none-some e
+  event-turns (GoR w) (Leaf b) o v e = none-some e
   event-turns (GoL w) (Fork b p l r) o v e = let h = event-turns w l o v e in omega arith
   event-turns (GoR w) (Fork b p l r) o v e = let h = event-turns w r o v e in omega arith
 
   -- ---------- what is asked ----------
   asks-join : (f g : Option (Final V)) (o : O) → if_both_over f g None (λ x y. Some m.idle) ≡ Some o → o ≡ m.idle
-  asks-join None g o e = none_some e
-  asks-join (Some x) None o e = none_some e
-  asks-join (Some x) (Some y) o e = sym (some_inj e)
+  asks-join None g o e = none-some e
+  asks-join (Some x) None o e = none-some e
+  asks-join (Some x) (Some y) o e = sym (some-inj e)
 
   -- a node that asks something of the heap is a leaf
   pub asks-leaf : (w : Way) (t : Task V G) (o : O) → look m w t ≡ Some o → (o ≡ m.idle → ⊥) → turn_at w t ≡ 1
   asks-leaf Here (Leaf b) o e n = refl
   asks-leaf Here (Fork b p l r) o e n = absurd (n (asks-join (final l) (final r) o e))
-  asks-leaf (GoL w) (Leaf b) o e n = none_some e
-  asks-leaf (GoR w) (Leaf b) o e n = none_some e
+  asks-leaf (GoL w) (Leaf b) o e n = none-some e
+  asks-leaf (GoR w) (Leaf b) o e n = none-some e
   asks-leaf (GoL w) (Fork b p l r) o e n = asks-leaf w l o e n
   asks-leaf (GoR w) (Fork b p l r) o e n = asks-leaf w r o e n
 

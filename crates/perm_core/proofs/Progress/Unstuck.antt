@@ -29,7 +29,7 @@ use Rattle.perm_meaning.specs.Expressions.{tagged, eval}
 use Rattle.perm_meaning.specs.Effects as effects
 use Rattle.perm_meaning.specs.Effects.{Load, Store, Take, Act, Calls, Resumption, Does, Sticks, choose, with_vars, into_var, makes, ticks, first_vars, if_number, on_value, on_referred, on_object, on_class, on_routine, on_index, on_length, below_limit, effect}
 use Rattle.perm_meaning.specs.NamedHeap.{Held, Own, marks}
-use Rattle.perm_meaning.proofs.SameName.{eq_itself}
+use Rattle.perm_meaning.proofs.SameName.{eq-itself}
 use Rattle.perm_core.specs.Whole.{is_known_type}
 use Rattle.perm_core.specs.Regions.{Labels}
 use Rattle.perm_core.specs.Picture.{has_shape, object_fits}
@@ -193,4 +193,4 @@ module _ (u : UnitCode) (labels : Labels) (h : Objects Name) (c : Context) (G : 
         called p k Null found vs r is count of = tt
         called p k (Reference q n) found vs r is count of =
             subst (λ z. GoesOn h (on_routine tagged z found (λ r. calling (Some (Reference q n)) found vs r))) (sym is)
-            (subst (λ z. GoesOn h (choose z (λ r. calling (Some (Reference q n)) found vs r) (λ r. Sticks) r)) (sym (ap (λ z. nat_eq z (length r.params)) count ∙ eq_itself (length r.params))) (limit-goes h l.depth _))
+            (subst (λ z. GoesOn h (choose z (λ r. calling (Some (Reference q n)) found vs r) (λ r. Sticks) r)) (sym (ap (λ z. nat_eq z (length r.params)) count ∙ eq-itself (length r.params))) (limit-goes h l.depth _))

@@ -6,7 +6,7 @@ use Rattle.perm_meaning.specs.Effects.{Tick}
 use Rattle.perm_meaning.specs.NamedHeap as named
 use Rattle.perm_meaning.specs.NamedHeap.{Held, Op, Task, State, memory}
 use Rattle.perm_meaning.specs.Steps.{runs, within, leftmost, leftmost_of, asked}
-use Rattle.perm_meaning.proofs.Leads.{none_some, ended_no_event}
+use Rattle.perm_meaning.proofs.Leads.{none-some, ended-no-event}
 use Rattle.perm_core.specs.Core.{core, look, step}
 use Rattle.perm_core.specs.Regions.{Labels}
 use Rattle.perm_core.specs.Picture.{IsPicture}
@@ -101,10 +101,10 @@ module _ (u : UnitCode) (checked : IsChecked u) where
 
   -- a state that has ended has no event, with or without a limit
   pub over-final : (limit : ℕ) (s : State) (f : Final Held) → final s.task ≡ Some f → IsFinal (step u limit) s
-  over-final limit s f e w = ap (λ o. asked (core u) (memory u) (within limit) s w o) (ended_no_event (core u) w s.task f e)
+  over-final limit s f e w = ap (λ o. asked (core u) (memory u) (within limit) s w o) (ended-no-event (core u) w s.task f e)
 
   pub over-free : (s : State) (f : Final Held) → final s.task ≡ Some f → IsFinal (free_step u) s
-  over-free s f e w = ap (λ o. asked (core u) (memory u) no_limit s w o) (ended_no_event (core u) w s.task f e)
+  over-free s f e w = ap (λ o. asked (core u) (memory u) no_limit s w o) (ended-no-event (core u) w s.task f e)
 
   module _ (keeps : KeepsPictures u) where
     -- an event within a limit, or without one, leads from a state with a picture to one with a picture
@@ -167,7 +167,7 @@ module _ (u : UnitCode) (checked : IsChecked u) where
         over_at c = go (next-or-over limit c.end (runs-keep (step u limit) (HasPicture u) (pictured-next limit) c.events s c.end picture c.run))
           where
             go : NextOrOver limit c.end → (ws : List Way) × (t : State) × Complete u limit s ws t
-            go (inl x) = none_some (sym (c.final (leftmost c.end.task)) ∙ x.1)
+            go (inl x) = none-some (sym (c.final (leftmost c.end.task)) ∙ x.1)
             go (inr x) = (c.events, c.end, record { run = c.run; ending = x.0; over = x.1 })
 
     -- two complete lists without a limit end in one state

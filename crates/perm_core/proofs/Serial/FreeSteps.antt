@@ -12,7 +12,7 @@ use Rattle.perm_meaning.specs.Objects.{size, length_of}
 use Rattle.perm_meaning.specs.NamedHeap.{Heap, Held, Op, State, memory, has_room, find, allocated, after}
 use Rattle.perm_meaning.specs.Steps as steps
 use Rattle.perm_meaning.specs.Steps.{Answer, Found, Refused, Missing, within, next_state, answered, asked}
-use Rattle.perm_meaning.proofs.Leads.{some_inj, none_some}
+use Rattle.perm_meaning.proofs.Leads.{some-inj, none-some}
 use Rattle.perm_core.specs.Core.{core, look, step}
 use Rattle.perm_core.specs.Claims.{Refuses, refused}
 
@@ -54,12 +54,12 @@ module _ (u : UnitCode) where
   happened fits s t w e = go (look u w s.task) refl e
     where
       reply : (o : Op) (x : Answer Held) → look u w s.task ≡ Some o → answered (core u) (memory u) fits s w o x ≡ Some t → Happened fits s w t
-      reply o (Found v) q e = record { op = o; told = Some v; looked = q; end = some_inj e }
-      reply o Refused q e = record { op = o; told = None; looked = q; end = some_inj e }
-      reply o Missing q e = none_some e
+      reply o (Found v) q e = record { op = o; told = Some v; looked = q; end = some-inj e }
+      reply o Refused q e = record { op = o; told = None; looked = q; end = some-inj e }
+      reply o Missing q e = none-some e
 
       go : (o : Option Op) → look u w s.task ≡ o → asked (core u) (memory u) fits s w o ≡ Some t → Happened fits s w t
-      go None q e = none_some e
+      go None q e = none-some e
       go (Some o) q e = reply o (find fits o s.heap) q e
 
   -- ---------- with and without a limit ----------

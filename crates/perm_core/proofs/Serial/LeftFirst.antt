@@ -7,7 +7,7 @@ use Rattle.perm_meaning.specs.Effects.{Tick}
 use Rattle.perm_meaning.specs.NamedHeap.{Held, Op, State, memory, find}
 use Rattle.perm_meaning.specs.Outcome.{Outcome, Ran, RanFull, RanStuck, outcome, opening_state}
 use Rattle.perm_meaning.specs.Steps.{Answer, Found, Refused, Missing, runs, within, leftmost, next_state, answered, asked, granted, asked_with_care, careful, alone}
-use Rattle.perm_meaning.proofs.Leads.{none_some, then_some, then_at}
+use Rattle.perm_meaning.proofs.Leads.{none-some, then-some, then-at}
 use Rattle.perm_core.specs.Core.{core, look, step, core_outcome}
 use Rattle.perm_core.specs.Claims.{IsChecked, Opens}
 use Rattle.perm_core.specs.Serial.{EndsLeftThenRight, RefusedWhereFull}
@@ -24,20 +24,20 @@ module _ (u : UnitCode) (limit : ℕ) where
     where
       reply : (o : Op) (x : Answer Held) → granted (core u) (memory u) (within limit) s w o x ≡ Some t → answered (core u) (memory u) (within limit) s w o x ≡ Some t
       reply o (Found v) e = e
-      reply o Refused e = none_some e
-      reply o Missing e = none_some e
+      reply o Refused e = none-some e
+      reply o Missing e = none-some e
 
       go : (o : Option Op) → asked_with_care (core u) (memory u) (within limit) s w o ≡ Some t → asked (core u) (memory u) (within limit) s w o ≡ Some t
-      go None e = none_some e
+      go None e = none-some e
       go (Some o) e = reply o (find (within limit) o s.heap) e
 
   -- so many events at the leftmost node are a list of events
   pub alone-listed : (n : ℕ) (s t : State) → alone (core u) (memory u) (within limit) n s ≡ Some t → (ws : List Way) × (runs (step u limit) ws s ≡ Some t)
   alone-listed zero s t e = ([], e)
   alone-listed (suc n) s t e =
-      let a = then_some (careful (core u) (memory u) (within limit) s (leftmost s.task)) (alone (core u) (memory u) (within limit) n) t e in
+      let a = then-some (careful (core u) (memory u) (within limit) s (leftmost s.task)) (alone (core u) (memory u) (within limit) n) t e in
       let r = alone-listed n a.0 t a.2 in
-      (leftmost s.task ∷ r.0, then_at (step u limit s (leftmost s.task)) (runs (step u limit) r.0) a.0 (careful-step s a.0 (leftmost s.task) a.1) ∙ r.1)
+      (leftmost s.task ∷ r.0, then-at (step u limit s (leftmost s.task)) (runs (step u limit) r.0) a.0 (careful-step s a.0 (leftmost s.task) a.1) ∙ r.1)
 
   module _ (input : List ℤ) (turns : ℕ) (r : Routine) where
     -- the leftmost node first, the core ends as the meaning says
@@ -90,7 +90,7 @@ module _ (u : UnitCode) (limit : ℕ) where
             record {
               events = l.0 ++ (w ∷ ws);
               end = t;
-              run = runs-append (step u limit) l.0 (w ∷ ws) (opening_state u input turns r) x.state l.1 ∙ then_at (step u limit x.state w) (runs (step u limit) ws) after event ∙ c.run;
+              run = runs-append (step u limit) l.0 (w ∷ ws) (opening_state u input turns r) x.state l.1 ∙ then-at (step u limit x.state w) (runs (step u limit) ws) after event ∙ c.run;
               told = told-full turns t c.ending c.over (lacking-ends t.task c.ending (runs-lack u limit ws after t lacks c.run) c.over) ∙ ap (λ z. Some z) (sym full);
             }
 

@@ -12,7 +12,7 @@ use Rattle.perm_meaning.specs.Steps.{Refused, within, alone, leftmost}
 use Rattle.perm_meaning.specs.Outcome.{RanFull, RanStuck, outcome, opening_own, opening_state, reported}
 use Rattle.perm_meaning.specs.Steady.{IsSteady}
 use Rattle.perm_meaning.specs.HoldsFewer.{StateHoldsFewer}
-use Rattle.perm_meaning.proofs.Leads.{some_inj, none_some, unended}
+use Rattle.perm_meaning.proofs.Leads.{some-inj, none-some, unended}
 use Rattle.perm_meaning.proofs.MovesAndCopies.Ends.{final-fewer}
 use Rattle.perm_meaning.proofs.MovesAndCopies.Events.{event-fewer}
 use Rattle.perm_meaning.proofs.MovesAndCopies.LeftFirst.{told-alike, leftmost-alike}
@@ -48,7 +48,7 @@ module _ (u : UnitCode) (limit : ℕ) (input : List ℤ) (turns : ℕ) (r : Rout
     where
       -- a lively state of the core goes with no state that has stopped
       no_stop : (s t : State) → StateHoldsFewer none (opening_own u input r).vars s t → IsStopped u (within limit) t → IsLively u (within limit) s → ⊥
-      no_stop s t h stopped (has_ended {f = f} q) = none_some (sym stopped.unended ∙ (final-fewer none (opening_own u input r).vars h.0 f q).1)
+      no_stop s t h stopped (has_ended {f = f} q) = none-some (sym stopped.unended ∙ (final-fewer none (opening_own u input r).vars h.0 f q).1)
       no_stop s t h stopped (has_event {o = p} q there) =
           let ev = event-fewer u steady h.0 (leftmost s.task) p q in
           there (ap (λ z. named.find (within limit) p z) (sym h.1) ∙ stopped.missing p (ap (λ w. machines.look (named.named Copies u) w t.task) (sym (leftmost-alike h.0)) ∙ ev.0))
@@ -59,8 +59,8 @@ module _ (u : UnitCode) (limit : ℕ) (input : List ℤ) (turns : ℕ) (r : Rout
           let b = final-fewer none (opening_own u input r).vars h.0 f q in
           none_told n s f e q
           (ap (λ z. told_of turns s z) q
-          ∙ ap (λ z. Some z) (told-alike none (opening_own u input r).vars turns s.heap f b.0 b.2 ∙ ap (λ z. reported turns b.0 z) (sym h.1) ∙ ap (λ z. reported turns z t.heap) (some_inj (sym b.1 ∙ over)) ∙ stuck))
-      no_end n s t g e h over stuck (has_event {o = p} q there) = none_some (sym (unended (named.named Copies u) (leftmost s.task) t.task p (event-fewer u steady h.0 (leftmost s.task) p q).0) ∙ over)
+          ∙ ap (λ z. Some z) (told-alike none (opening_own u input r).vars turns s.heap f b.0 b.2 ∙ ap (λ z. reported turns b.0 z) (sym h.1) ∙ ap (λ z. reported turns z t.heap) (some-inj (sym b.1 ∙ over)) ∙ stuck))
+      no_end n s t g e h over stuck (has_event {o = p} q there) = none-some (sym (unended (named.named Copies u) (leftmost s.task) t.task p (event-fewer u steady h.0 (leftmost s.task) p q).0) ∙ over)
 
       by_copies : Stops u (within limit) first ⊎ EndsUntold u (within limit) turns first → ⊥
       by_copies (inl x) = let a = alone-back u steady (within limit) x.run.0 first first x.state begins lively x.run.1 in no_stop a.0 x.state a.2 x.stopped (lively x.run.0 a.0 a.1)

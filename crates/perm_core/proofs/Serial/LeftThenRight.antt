@@ -7,7 +7,7 @@ use Rattle.perm_meaning.specs.Machine.{Way, NoRoom, NoTurns, Trapped, Fine, Gave
 use Rattle.perm_meaning.specs.NamedHeap.{Heap, Held, Final, State}
 use Rattle.perm_meaning.specs.Outcome.{Outcome, RanFull, outcome, reported, opening_state}
 use Rattle.perm_meaning.specs.Steps.{runs}
-use Rattle.perm_meaning.proofs.Leads.{some_inj, none_some}
+use Rattle.perm_meaning.proofs.Leads.{some-inj, none-some}
 use Rattle.perm_core.specs.Core.{step, told_of, core_outcome}
 use Rattle.perm_core.specs.NextPicture.{first_picture}
 use Rattle.perm_core.specs.Claims.{IsChecked, Opens, AllHaveNext}
@@ -65,7 +65,7 @@ module _ (u : UnitCode) (limit : ℕ) (input : List ℤ) (turns : ℕ) where
   ended s o = go (final s.task)
     where
       go : (x : Option Final) → told_of turns s x ≡ Some o → (f : Final) × (x ≡ Some f)
-      go None e = none_some e
+      go None e = none-some e
       go (Some f) e = (f, refl)
 
   module _ (keeps : KeepsPictures u) (some : SomeEndsSo) where
@@ -85,14 +85,14 @@ module _ (u : UnitCode) (limit : ℕ) (input : List ℤ) (turns : ℕ) where
         told = ends-left-then-right r ws t checked opens run f over
 
         to_full : SomeRefused u limit ws (opening_state u input turns r) → outcome u input turns limit ≡ RanFull
-        to_full refused = some_inj (sym told ∙ told-full turns t f over (lacking-ends t.task f (refused-lacks u limit ws (opening_state u input turns r) t refused run) over))
+        to_full refused = some-inj (sym told ∙ told-full turns t f over (lacking-ends t.task f (refused-lacks u limit ws (opening_state u input turns r) t refused run) over))
 
         to_refused : outcome u input turns limit ≡ RanFull → SomeRefused u limit ws (opening_state u input turns r)
         to_refused full = elim (some-refused-or-not u limit ws (opening_state u input turns r)) [ yes r ↦ r | no not ↦ absurd (never not) ]
           where
             ends_full : EndsFull f
-            ends_full = reported-so turns f t.heap (some_inj (sym (ap (λ z. told_of turns t z) over) ∙ told ∙ ap (λ z. Some z) full))
+            ends_full = reported-so turns f t.heap (some-inj (sym (ap (λ z. told_of turns t z) over) ∙ told ∙ ap (λ z. Some z) full))
 
             never : (SomeRefused u limit ws (opening_state u input turns r) → ⊥) → ⊥
             never not =
-                roomy-ends u t.task f (free-runs-room u ws (opening_state u input turns r) t (λ e. none_some e) (unrefused-runs-free u limit ws (opening_state u input turns r) t not run)) over ends_full
+                roomy-ends u t.task f (free-runs-room u ws (opening_state u input turns r) t (λ e. none-some e) (unrefused-runs-free u limit ws (opening_state u input turns r) t not run)) over ends_full

@@ -7,7 +7,7 @@ use Rattle.perm_meaning.specs.Effects.{Tick}
 use Rattle.perm_meaning.specs.NamedHeap.{Branch, Final, Held, Op, State, Task, memory, find}
 use Rattle.perm_meaning.specs.Steps.{Answer, Found, Refused, Missing, within, alone, careful, granted, answered, asked, asked_with_care, leftmost, leftmost_of}
 use Rattle.perm_meaning.specs.Outcome.{RanFull, RanStuck, outcome, opening_state}
-use Rattle.perm_meaning.proofs.Leads.{some_inj, none_some, then_some}
+use Rattle.perm_meaning.proofs.Leads.{some-inj, none-some, then-some}
 use Rattle.perm_meaning.proofs.MovesAndCopies.RunsBack.{IsLively, has_ended, has_event, StaysLively}
 use Rattle.perm_core.specs.Core.{core, look, step, core_outcome}
 use Rattle.perm_core.specs.Claims.{IsChecked, Opens, leaf_at, AllHaveNext}
@@ -45,8 +45,8 @@ module _ (u : UnitCode) where
     looked s t w e = go (look u w s.task) refl
       where
         go : (o : Option Op) → look u w s.task ≡ o → Asks (IsAnswered s) w s.task
-        go (Some o) q = (o, q, λ m. none_some (sym (ap (λ z. asked (core u) (memory u) (within limit) s w z) q ∙ ap (λ a. answered (core u) (memory u) (within limit) s w o a) m) ∙ e))
-        go None q = none_some (sym (ap (λ z. asked (core u) (memory u) (within limit) s w z) q) ∙ e)
+        go (Some o) q = (o, q, λ m. none-some (sym (ap (λ z. asked (core u) (memory u) (within limit) s w z) q ∙ ap (λ a. answered (core u) (memory u) (within limit) s w o a) m) ∙ e))
+        go None q = none-some (sym (ap (λ z. asked (core u) (memory u) (within limit) s w z) q) ∙ e)
 
     -- an event that is no refused allocation is an event
     careful-steps : (s t : State) (w : Way) → careful (core u) (memory u) (within limit) s w ≡ Some t → step u limit s w ≡ Some t
@@ -54,11 +54,11 @@ module _ (u : UnitCode) where
       where
         answers : (o : Op) (a : Answer Held) → granted (core u) (memory u) (within limit) s w o a ≡ Some t → answered (core u) (memory u) (within limit) s w o a ≡ Some t
         answers o (Found v) e = e
-        answers o Refused e = none_some e
-        answers o Missing e = none_some e
+        answers o Refused e = none-some e
+        answers o Missing e = none-some e
 
         asks : (o : Option Op) → asked_with_care (core u) (memory u) (within limit) s w o ≡ Some t → asked (core u) (memory u) (within limit) s w o ≡ Some t
-        asks None e = none_some e
+        asks None e = none-some e
         asks (Some o) e = answers o ((memory u).find (within limit) o s.heap) e
 
     -- a state with a picture has ended, or has an event next
@@ -75,9 +75,9 @@ module _ (u : UnitCode) where
     module _ (keeps : KeepsPictures u) (is : IsChecked u) where
       -- so it is after each number of events, left first
       stays-lively : (k : ℕ) (labels : Labels) (s t : State) → IsPicture u labels s → alone (core u) (memory u) (within limit) k s ≡ Some t → IsLively u (within limit) t
-      stays-lively zero labels s t picture e = subst (λ z. IsLively u (within limit) z) (some_inj e) (picture-lively labels s is picture)
+      stays-lively zero labels s t picture e = subst (λ z. IsLively u (within limit) z) (some-inj e) (picture-lively labels s is picture)
       stays-lively (suc k) labels s t picture e =
-          let x = then_some (careful (core u) (memory u) (within limit) s (leftmost s.task)) (alone (core u) (memory u) (within limit) k) t e in
+          let x = then-some (careful (core u) (memory u) (within limit) s (leftmost s.task)) (alone (core u) (memory u) (within limit) k) t e in
           stays-lively k (next_picture u limit labels s (leftmost s.task)) x.0 t (keeps limit labels s x.0 (leftmost s.task) is picture (careful-steps s x.0 (leftmost s.task) x.1)) x.2
 
       -- the core of a checked unit is never stuck, left first

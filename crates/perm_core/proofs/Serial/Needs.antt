@@ -1,7 +1,7 @@
 -- Where each list of events can be brought to an end, and what a state needs never falls, no list needs more than a complete one.
 use Rattle.std.proofs.Common.{◌≡◌, ℕ, zero, suc, ◌≤◌, ◌<◌, ◌⊎◌, inl, inr, Option, Some, List, [], ◌∷◌, ◌++◌, refl, sym, ap, ◌∙◌, subst, arith, le_refl}
 use Rattle.perm_meaning.specs.Steps.{runs}
-use Rattle.perm_meaning.proofs.Leads.{some_inj, then_some, then_at}
+use Rattle.perm_meaning.proofs.Leads.{some-inj, then-some, then-at}
 use Rattle.perm_core.proofs.Serial.Confluence.{IsFinal, Commutes, confluent}
 
 -- a state has an event, or it is final
@@ -24,16 +24,16 @@ pub record Completed {S E : Type 0} (step : S → E → Option S) (s : S) : Type
 module _ {S E : Type 0} (step : S → E → Option S) where
   -- one list after another
   pub runs-append : (xs ys : List E) (s t : S) → runs step xs s ≡ Some t → runs step (xs ++ ys) s ≡ runs step ys t
-  runs-append [] ys s t e = ap (λ z. runs step ys z) (some_inj e)
+  runs-append [] ys s t e = ap (λ z. runs step ys z) (some-inj e)
   runs-append (x ∷ xs) ys s t e =
-      let a = then_some (step s x) (runs step xs) t e in
-      then_at (step s x) (runs step (xs ++ ys)) a.0 a.1 ∙ runs-append xs ys a.0 t a.2
+      let a = then-some (step s x) (runs step xs) t e in
+      then-at (step s x) (runs step (xs ++ ys)) a.0 a.1 ∙ runs-append xs ys a.0 t a.2
 
 module _ {S E : Type 0} (step : S → E → Option S) (I : S → Type 0) where
   -- what each event keeps, a list keeps
   pub runs-keep : ((s t : S) (e : E) → I s → step s e ≡ Some t → I t) → (xs : List E) (s t : S) → I s → runs step xs s ≡ Some t → I t
-  runs-keep keeps [] s t i e = subst (λ z. I z) (some_inj e) i
-  runs-keep keeps (x ∷ xs) s t i e = let a = then_some (step s x) (runs step xs) t e in runs-keep keeps xs a.0 t (keeps s a.0 x i a.1) a.2
+  runs-keep keeps [] s t i e = subst (λ z. I z) (some-inj e) i
+  runs-keep keeps (x ∷ xs) s t i e = let a = then-some (step s x) (runs step xs) t e in runs-keep keeps xs a.0 t (keeps s a.0 x i a.1) a.2
 
   module _ (fuel : S → ℕ) (n : Terminates step I fuel) where
     complete-within : (k : ℕ) (s : S) → I s → fuel s < k → Completed {E = E} step s
@@ -45,7 +45,7 @@ module _ {S E : Type 0} (step : S → E → Option S) (I : S → Type 0) where
         go further (inl x) =
             let l = n.falls s x.1 x.0 x.2 in
             let r = further x.1 (n.keeps s x.1 x.0 i x.2) (omega arith) in
-            record { events = x.0 ∷ r.events; end = r.end; run = then_at (step s x.0) (runs step r.events) x.1 x.2 ∙ r.run; final = r.final }
+            record { events = x.0 ∷ r.events; end = r.end; run = then-at (step s x.0) (runs step r.events) x.1 x.2 ∙ r.run; final = r.final }
 
     -- each list can be completed
     pub complete : (s : S) → I s → Completed {E = E} step s
@@ -53,9 +53,9 @@ module _ {S E : Type 0} (step : S → E → Option S) (I : S → Type 0) where
 
     module _ (need : S → ℕ) (grows : (s t : S) (e : E) → step s e ≡ Some t → need s ≤ need t) (dec : (x y : E) → Dec (x ≡ y)) (m : Commutes step I) where
       need-grows : (xs : List E) (s t : S) → runs step xs s ≡ Some t → need s ≤ need t
-      need-grows [] s t e = subst (λ z. need s ≤ need z) (some_inj e) (le_refl (need s))
+      need-grows [] s t e = subst (λ z. need s ≤ need z) (some-inj e) (le_refl (need s))
       need-grows (x ∷ xs) s t e =
-          let a = then_some (step s x) (runs step xs) t e in
+          let a = then-some (step s x) (runs step xs) t e in
           let first = grows s a.0 x a.1 in
           let rest = need-grows xs a.0 t a.2 in
           omega arith

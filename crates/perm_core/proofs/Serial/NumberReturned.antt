@@ -17,7 +17,7 @@ use Rattle.perm_meaning.specs.Objects.{Objects}
 use Rattle.perm_meaning.specs.Expressions.{tagged, value_of}
 use Rattle.perm_meaning.specs.Machine.{Frame, Close, Returning, Failing, Leaf, Fork, Way, Here, Fine, GaveBack, Failed, Due, stage, join_final, Did, On, Splits, Ends, Dies, done, resumed, join_of}
 use Rattle.perm_meaning.specs.NamedHeap.{Heap, Held, Op, Own, Branch, Final, Task}
-use Rattle.perm_meaning.proofs.SameName.{eq_true}
+use Rattle.perm_meaning.proofs.SameName.{eq-true}
 use Rattle.perm_core.specs.Core.{core}
 use Rattle.perm_core.specs.Endings.{ByReturn, is_open}
 use Rattle.perm_core.specs.Regions.{Zone, Base, OwnOf, Labels, calls, top_zone}
@@ -156,7 +156,7 @@ module _ (u : UnitCode) where
         → RootReturnsNumber after
     keeps-number labels heap H o v _ _ after node stands has (refused_leaf b t _ q open_ same) = subst (λ z. RootReturnsNumber z) (sym same) tt
     keeps-number labels heap H o v _ _ after node stands has (told_leaf b t w d _ q open_ due turn same) =
-        let low = eq_true (lowest b.own.routine b.stack) u.run (sym (ap (λ x. not (is_open x) || nat_eq (lowest b.own.routine b.stack) u.run) open_) ∙ stands) in
+        let low = eq-true (lowest b.own.routine b.stack) u.run (sym (ap (λ x. not (is_open x) || nat_eq (lowest b.own.routine b.stack) u.run) open_) ∙ stands) in
         subst (λ z. RootReturnsNumber z) (sym same) (done-number b t d open_ (λ x e. run-returns labels heap H b t w o x node open_ due low (by-returning b.own w b.code b.stack o d x e turn)))
     keeps-number labels heap H o v _ _ after node stands has (joining b p l r x y _ q left right same) =
         subst (λ z. RootReturnsNumber z) (sym same) (resumed-number b (join_of (core u) b p x y) has (join-goes-on ((core u).parting.joined b.own.routine p) b.own.vars b.own.printed x y))

@@ -3,7 +3,7 @@ use Rattle.std.proofs.Common.{ℕ, Some, List, [], ◌∷◌, ◌++◌, refl, �
 use Rattle.std.specs.Prelude.{ℤ}
 use Rattle.perm_tree.specs.Code.{UnitCode}
 use Rattle.perm_meaning.specs.WordHeap as worded
-use Rattle.perm_meaning.proofs.Leads.{then_at}
+use Rattle.perm_meaning.proofs.Leads.{then-at}
 use Rattle.perm_core.specs.WordCore as word_core
 use Rattle.perm_core.specs.Claims.{WordsDoNoMore}
 use Rattle.perm_core.specs.Reached.{IsReached, ReachesOpening, ReachesNext, ShowsPicture, TellsMeaning}
@@ -29,7 +29,7 @@ module _ (u : UnitCode) (limit : ℕ) (input : List ℤ) (turns : ℕ) where
     checked = is.checked;
     opens = is.opens;
     events = is.events ++ (w ∷ []);
-    run = runs-append (word_core.step u limit) is.events (w ∷ []) (worded.opening_state u input turns is.first) t is.run ∙ then_at (word_core.step u limit t w) (λ z. Some z) t' e;
+    run = runs-append (word_core.step u limit) is.events (w ∷ []) (worded.opening_state u input turns is.first) t is.run ∙ then-at (word_core.step u limit t w) (λ z. Some z) t' e;
   }
 
   shown : (t : worded.State) → (is : IsReached u limit input turns t) → Shows u limit input turns is.first is.checked is.opens t

@@ -16,7 +16,7 @@ use Rattle.perm_meaning.specs.NamedHeap.{Heap, Held, Op, Own, Branch, Task, Fina
 use Rattle.perm_meaning.specs.Steps.{Answer, Found, Refused, Missing, runs, answered, asked}
 use Rattle.perm_meaning.specs.Turns as turns
 use Rattle.perm_meaning.specs.Turns.{acted, turn_of, returned, by_truth, on_test, given_back, turn}
-use Rattle.perm_meaning.proofs.Leads.{some_inj, none_some, then_some}
+use Rattle.perm_meaning.proofs.Leads.{some-inj, none-some, then-some}
 use Rattle.perm_core.specs.Core.{core, look}
 use Rattle.perm_core.proofs.Serial.FreeSteps.{no_limit, free_step}
 use Rattle.perm_core.proofs.Serial.Refusals.{EndsFull}
@@ -101,11 +101,11 @@ module _ (u : UnitCode) where
   AllHaveRoom (Fork b p l r) = (b.close ≢ Some (Failing NoRoom)) × AllHaveRoom l × AllHaveRoom r
 
   by-turns-otherwise : (n : ℕ) (l : Own) (f : Final) → over (stage_by_turns n l) ≡ Some f → EndsFull f → ⊥
-  by-turns-otherwise zero l f e h = let x = subst (λ z. EndsFull z) (sym (some_inj e)) h in absurd (cc)
-  by-turns-otherwise (suc n) l f e h = none_some e
+  by-turns-otherwise zero l f e h = let x = subst (λ z. EndsFull z) (sym (some-inj e)) h in absurd (cc)
+  by-turns-otherwise (suc n) l f e h = none-some e
 
   by-code-otherwise : (c : Code) (st : List (Frame Held)) (n : ℕ) (l : Own) (f : Final) → over (stage_by_code c st n l) ≡ Some f → EndsFull f → ⊥
-  by-code-otherwise End [] n l f e h = subst (λ z. EndsFull z) (sym (some_inj e)) h
+  by-code-otherwise End [] n l f e h = subst (λ z. EndsFull z) (sym (some-inj e)) h
   by-code-otherwise End (g ∷ st) n l f e h = by-turns-otherwise n l f e h
   by-code-otherwise (Give at w x) st n l f e h = by-turns-otherwise n l f e h
   by-code-otherwise (Return at a) st n l f e h = by-turns-otherwise n l f e h
@@ -117,12 +117,12 @@ module _ (u : UnitCode) where
 
   closed-otherwise : (c : Option (Close Held)) (b : Branch) (f : Final) → c ≢ Some (Failing NoRoom) → over (stage_from c (stage_by_code b.code b.stack b.turns b.own) b.turns b.own) ≡ Some f → EndsFull f → ⊥
   closed-otherwise None b f not e h = by-code-otherwise b.code b.stack b.turns b.own f e h
-  closed-otherwise (Some (Returning v)) b f not e h = subst (λ z. EndsFull z) (sym (some_inj e)) h
-  closed-otherwise (Some (Failing x)) b f not e h = not (ap (λ z. Some (Failing z)) (subst (λ z. EndsFull z) (sym (some_inj e)) h))
+  closed-otherwise (Some (Returning v)) b f not e h = subst (λ z. EndsFull z) (sym (some-inj e)) h
+  closed-otherwise (Some (Failing x)) b f not e h = not (ap (λ z. Some (Failing z)) (subst (λ z. EndsFull z) (sym (some-inj e)) h))
 
   pub roomy-ends : (t : Task) (f : Final) → AllHaveRoom t → final t ≡ Some f → EndsFull f → ⊥
   roomy-ends (Leaf b) f has e h = closed-otherwise b.close b f has e h
-  roomy-ends (Fork b p l r) f has e h = none_some e
+  roomy-ends (Fork b p l r) f has e h = none-some e
 
   worse-otherwise : (e f : Failure) → e ≢ NoRoom → f ≢ NoRoom → worse e f ≢ NoRoom
   worse-otherwise e NoRoom h k q = k refl
@@ -155,14 +155,14 @@ module _ (u : UnitCode) where
 
   resumed-room : (b : Branch) (f : Final) → b.close ≢ Some (Failing NoRoom) → (EndsFull f → ⊥) → AllHaveRoom (resumed (core u) b f)
   resumed-room b (Fine vs t p) open_ not = λ e. open_ (sym (settled-close (record b { own = record b.own { printed = p }; turns = t }) vs b.code b.stack) ∙ e)
-  resumed-room b (GaveBack v t p) open_ not = λ e. let x = some_inj e in absurd (cc)
-  resumed-room b (Failed e t p) open_ not = λ q. not (ap failure_of (some_inj q))
+  resumed-room b (GaveBack v t p) open_ not = λ e. let x = some-inj e in absurd (cc)
+  resumed-room b (Failed e t p) open_ not = λ q. not (ap failure_of (some-inj q))
 
   done-room : (b : Branch) (t : ℕ) (d : Did Held Mark) → b.close ≢ Some (Failing NoRoom) → DiesOtherwise d → AllHaveRoom (done (core u) b t d)
   done-room b t (On l c st) open_ h = λ e. open_ (sym (settled-close (record b { own = l; turns = t }) l.vars c st) ∙ e)
-  done-room b t (Splits p rest) open_ h = (open_, (λ e. none_some e), (λ e. none_some e))
-  done-room b t (Ends v) open_ h = λ e. let x = some_inj e in absurd (cc)
-  done-room b t (Dies e) open_ h = λ q. h (ap failure_of (some_inj q))
+  done-room b t (Splits p rest) open_ h = (open_, (λ e. none-some e), (λ e. none-some e))
+  done-room b t (Ends v) open_ h = λ e. let x = some-inj e in absurd (cc)
+  done-room b t (Dies e) open_ h = λ q. h (ap failure_of (some-inj q))
 
   told-room : (b : Branch) (t : ℕ) (x : Turn Held Mark Op) (v : Held) → b.close ≢ Some (Failing NoRoom) → EndsOtherwise x → AllHaveRoom (told_to (core u) b t x (Some v))
   told-room b t NoTurn v open_ h = open_
@@ -207,14 +207,14 @@ module _ (u : UnitCode) where
   free-room s t w has = go (look u w s.task)
     where
       reply : (o : Op) (x : Answer Held) → find no_limit o s.heap ≡ x → answered (core u) (memory u) no_limit s w o x ≡ Some t → AllHaveRoom t.task
-      reply o (Found v) q e = subst (λ (z : State). AllHaveRoom z.task) (some_inj e) (fill-room w s.task v has)
+      reply o (Found v) q e = subst (λ (z : State). AllHaveRoom z.task) (some-inj e) (fill-room w s.task v has)
       reply o Refused q e = absurd (never-refused o s.heap q)
-      reply o Missing q e = none_some e
+      reply o Missing q e = none-some e
 
       go : (o : Option Op) → asked (core u) (memory u) no_limit s w o ≡ Some t → AllHaveRoom t.task
-      go None e = none_some e
+      go None e = none-some e
       go (Some o) e = reply o (find no_limit o s.heap) refl e
 
   pub free-runs-room : (ws : List Way) (s t : State) → AllHaveRoom s.task → runs (free_step u) ws s ≡ Some t → AllHaveRoom t.task
-  free-runs-room [] s t has e = subst (λ (z : State). AllHaveRoom z.task) (some_inj e) has
-  free-runs-room (w ∷ ws) s t has e = let a = then_some (free_step u s w) (runs (free_step u) ws) t e in free-runs-room ws a.0 t (free-room s a.0 w has a.1) a.2
+  free-runs-room [] s t has e = subst (λ (z : State). AllHaveRoom z.task) (some-inj e) has
+  free-runs-room (w ∷ ws) s t has e = let a = then-some (free_step u s w) (runs (free_step u) ws) t e in free-runs-room ws a.0 t (free-room s a.0 w has a.1) a.2

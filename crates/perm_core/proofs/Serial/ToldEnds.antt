@@ -6,8 +6,8 @@ use Rattle.perm_meaning.specs.Machine.{Frame, Trapped, NoTurns, NoRoom, Close, R
 use Rattle.perm_meaning.specs.NamedHeap.{Heap, Held, Final, Own, State, Task, memory}
 use Rattle.perm_meaning.specs.Outcome.{RanStuck, reported, opening_state}
 use Rattle.perm_meaning.specs.Steps.{within, alone}
-use Rattle.perm_meaning.proofs.Leads.{some_inj, none_some}
-use Rattle.perm_meaning.proofs.SameName.{eq_itself}
+use Rattle.perm_meaning.proofs.Leads.{some-inj, none-some}
+use Rattle.perm_meaning.proofs.SameName.{eq-itself}
 use Rattle.perm_core.specs.Core.{core, step, told_of, core_outcome}
 use Rattle.perm_core.specs.Endings.{ByReturn, branch_ends, tree_ends}
 use Rattle.perm_core.specs.Picture.{stands_in}
@@ -29,12 +29,12 @@ IsTold (GaveBack v t p) = IsNumber v
 IsTold (Failed e t p) = Unit {0}
 
 by-turns-told : (n : ℕ) (l : Own) (f : Final) → over (stage_by_turns n l) ≡ Some f → IsTold f
-by-turns-told zero l f e = subst (λ z. IsTold z) (some_inj e) tt
-by-turns-told (suc n) l f e = none_some e
+by-turns-told zero l f e = subst (λ z. IsTold z) (some-inj e) tt
+by-turns-told (suc n) l f e = none-some e
 
 closed-told : (c : Option (Close Held)) (a : Code) (st : List (Frame Held)) (n : ℕ) (l : Own) (f : Final) → branch_ends ByReturn c a st ≡ true → ReturnsNumber c → over (stage_from c (stage_by_code a st n l) n l) ≡ Some f → IsTold f
-closed-told (Some (Returning v)) a st n l f ends number e = subst (λ z. IsTold z) (some_inj e) number
-closed-told (Some (Failing x)) a st n l f ends number e = subst (λ z. IsTold z) (some_inj e) tt
+closed-told (Some (Returning v)) a st n l f ends number e = subst (λ z. IsTold z) (some-inj e) number
+closed-told (Some (Failing x)) a st n l f ends number e = subst (λ z. IsTold z) (some-inj e) tt
 closed-told None End [] n l f ends number e = absurd (let no : ⊥ = cc ends in no)
 closed-told None End (g ∷ st) n l f ends number e = by-turns-told n l f e
 closed-told None (Give at w x) st n l f ends number e = by-turns-told n l f e
@@ -47,7 +47,7 @@ closed-told None (Recover at x own hides a rest) st n l f ends number e = by-tur
 
 root-told : (t : Task) (f : Final) → tree_ends ByReturn t ≡ true → RootReturnsNumber t → final t ≡ Some f → IsTold f
 root-told (Leaf b) f ends number e = closed-told b.close b.code b.stack b.turns b.own f ends number e
-root-told (Fork b p l r) f ends number e = none_some e
+root-told (Fork b p l r) f ends number e = none-some e
 
 told-unstuck : (turns : ℕ) (f : Final) (h : Heap) → IsTold f → reported turns f h ≢ RanStuck
 told-unstuck turns (Fine vs t p) h is e = absurd is
@@ -64,7 +64,7 @@ module _ (u : UnitCode) where
     pub number : RootReturnsNumber s.task
 
   runs-told : (turns : ℕ) (s : State) (f : Final) → RunsRun s → final s.task ≡ Some f → core_outcome turns s ≢ Some RanStuck
-  runs-told turns s f is over e = told-unstuck turns f s.heap (root-told s.task f is.picture.1.orderly.ends is.number over) (some_inj (sym (ap (λ z. told_of turns s z) over) ∙ e))
+  runs-told turns s f is over e = told-unstuck turns f s.heap (root-told s.task f is.picture.1.orderly.ends is.number over) (some-inj (sym (ap (λ z. told_of turns s z) over) ∙ e))
 
   module _ (checked : IsChecked u) (keeps : KeepsPictures u) (limit : ℕ) where
     runs-next : (s t : State) (w : Way) → RunsRun s → step u limit s w ≡ Some t → RunsRun t
@@ -85,4 +85,4 @@ module _ (u : UnitCode) where
         runs-told turns t f (runs-keep (step u limit) RunsRun runs-next l.0 (opening_state u input turns r) t begins l.1) over
       where
         begins : RunsRun (opening_state u input turns r)
-        begins = record { picture = (first_picture, opens-with-picture u limit input turns r checked opens); stands = eq_itself u.run; number = tt }
+        begins = record { picture = (first_picture, opens-with-picture u limit input turns r checked opens); stands = eq-itself u.run; number = tt }

@@ -44,35 +44,35 @@ driven c s u input turns limit (Some r) = shown s (told_of turns (drive c u limi
 abbrev pub alone_run : Custody → Source → List ℤ → ℕ → ℕ → Shown
 alone_run c s input turns limit = driven c s (code s) input turns limit (slice_get (code s).routines (code s).run)
 
-two_fields : alone_run Copies p1 [] 100 100 ≡ Shows (IsDone (pos 0)) (pos 7 ∷ []) 7 5
-two_fields = refl
+two-fields : alone_run Copies p1 [] 100 100 ≡ Shows (IsDone (pos 0)) (pos 7 ∷ []) 7 5
+two-fields = refl
 
-list_summed : alone_run Copies p2 (pos 5 ∷ pos 6 ∷ pos 7 ∷ []) 100 100 ≡ Shows (IsDone (pos 18)) (pos 18 ∷ []) 48 10
-list_summed = refl
+list-summed : alone_run Copies p2 (pos 5 ∷ pos 6 ∷ pos 7 ∷ []) 100 100 ≡ Shows (IsDone (pos 18)) (pos 18 ∷ []) 48 10
+list-summed = refl
 
-list_summed_moving : alone_run Moves p2 (pos 5 ∷ pos 6 ∷ pos 7 ∷ []) 100 100 ≡ Shows (IsDone (pos 18)) (pos 18 ∷ []) 48 10
-list_summed_moving = refl
+list-summed-moving : alone_run Moves p2 (pos 5 ∷ pos 6 ∷ pos 7 ∷ []) 100 100 ≡ Shows (IsDone (pos 18)) (pos 18 ∷ []) 48 10
+list-summed-moving = refl
 
-child_bumped : alone_run Copies p4 [] 100 100 ≡ Shows (IsDone (pos 0)) (pos 1 ∷ []) 13 4
-child_bumped = refl
+child-bumped : alone_run Copies p4 [] 100 100 ≡ Shows (IsDone (pos 0)) (pos 1 ∷ []) 13 4
+child-bumped = refl
 
-child_bumped_moving : alone_run Moves p4 [] 100 100 ≡ Shows (IsDone (pos 0)) (pos 1 ∷ []) 13 4
-child_bumped_moving = refl
+child-bumped-moving : alone_run Moves p4 [] 100 100 ≡ Shows (IsDone (pos 0)) (pos 1 ∷ []) 13 4
+child-bumped-moving = refl
 
-left_traps : alone_run Copies p9 [] 100 100 ≡ Shows (TrapsAt DivideByZero (6, 7)) (pos 1 ∷ []) 5 2
-left_traps = refl
+left-traps : alone_run Copies p9 [] 100 100 ≡ Shows (TrapsAt DivideByZero (6, 7)) (pos 1 ∷ []) 5 2
+left-traps = refl
 
-nine_words : alone_run Copies p10 [] 100 9 ≡ ShowsFull
-nine_words = refl
+nine-words : alone_run Copies p10 [] 100 9 ≡ ShowsFull
+nine-words = refl
 
-six_turns : alone_run Copies p11 [] 6 100 ≡ Shows IsOutOfTurns (pos 3 ∷ []) 6 2
-six_turns = refl
+six-turns : alone_run Copies p11 [] 6 100 ≡ Shows IsOutOfTurns (pos 3 ∷ []) 6 2
+six-turns = refl
 
-four_turns : alone_run Moves p11 [] 4 100 ≡ Shows IsOutOfTurns [] 4 2
-four_turns = refl
+four-turns : alone_run Moves p11 [] 4 100 ≡ Shows IsOutOfTurns [] 4 2
+four-turns = refl
 
-tree_summed : alone_run Copies (p3 1) (pos 7 ∷ pos 8 ∷ []) 100 100 ≡ Shows (IsDone (pos 0)) (pos 15 ∷ []) 50 12
-tree_summed = refl
+tree-summed : alone_run Copies (p3 1) (pos 7 ∷ pos 8 ∷ []) 100 100 ≡ Shows (IsDone (pos 0)) (pos 15 ∷ []) 50 12
+tree-summed = refl
 
-tree_summed_moving : alone_run Moves (p3 1) (pos 7 ∷ pos 8 ∷ []) 100 100 ≡ Shows (IsDone (pos 0)) (pos 15 ∷ []) 50 12
-tree_summed_moving = refl
+tree-summed-moving : alone_run Moves (p3 1) (pos 7 ∷ pos 8 ∷ []) 100 100 ≡ Shows (IsDone (pos 0)) (pos 15 ∷ []) 50 12
+tree-summed-moving = refl

@@ -24,21 +24,21 @@ abbrev pub plain : Code → List Frame → Moment → Branch
 plain c st m = record { own = m.own; turns = m.turns; code = c; stack = st; close = None }
 
 -- where nothing stands below, no block is at its end
-pub at_empty : (u : UnitCode) (c : Code) (m : Moment) → at_code u c [] m ≡ plain c [] m
-at_empty u End m = refl
-at_empty u c m = refl
+pub at-empty : (u : UnitCode) (c : Code) (m : Moment) → at_code u c [] m ≡ plain c [] m
+at-empty u End m = refl
+at-empty u c m = refl
 
 -- code that isn't at its end
 abbrev pub IsDue : Code → List Frame → Type 0
 IsDue c st = (t : ℕ) (l : Own) → stage_by_code c st t l ≡ stage_by_turns t l
 
 -- want of turns isn't want of room
-no_turns_room : NoTurns ≢ NoRoom
-no_turns_room e = absurd (cc)
+no-turns-room : NoTurns ≢ NoRoom
+no-turns-room e = absurd (cc)
 
 -- nor is a trap
-trapped_room : (k : TrapKind) (at : Span) → Trapped k at ≢ NoRoom
-trapped_room k at e = absurd (cc)
+trapped-room : (k : TrapKind) (at : Span) → Trapped k at ≢ NoRoom
+trapped-room k at e = absurd (cc)
 
 module _ (u : UnitCode) (fits : ℕ → Bool) where
   -- m is the moment after the turn is spent
@@ -61,10 +61,10 @@ module _ (u : UnitCode) (fits : ℕ → Bool) where
   TurnTo c d st m (Takes o told) r = Answered c d st m o told (find fits o m.heap) r
 
   -- a branch that takes its turn
-  by_turn : (c d : Code) (st : List Frame) → IsDue c st → (m : Moment) (t : Turn Held Mark Op) (r : Result) → turns.turn tagged Copies u marks c st m.own ≡ t → TurnTo c d st m t r
+  by-turn : (c d : Code) (st : List Frame) → IsDue c st → (m : Moment) (t : Turn Held Mark Op) (r : Result) → turns.turn tagged Copies u marks c st m.own ≡ t → TurnTo c d st m t r
       → Follows u fits d st (suc m.turns) (before c st m) r
-  by_turn c d st due m NoTurn r e q = q
-  by_turn c d st due m (Takes o told) r e q = go (find fits o m.heap) refl q
+  by-turn c d st due m NoTurn r e q = q
+  by-turn c d st due m (Takes o told) r e q = go (find fits o m.heap) refl q
     where
       x : State
       x = before c st m
@@ -91,71 +91,71 @@ module _ (u : UnitCode) (fits : ℕ → Bool) where
       → ((k : ℕ) → suc k ≡ t → TurnTo c d st (record { turns = k; own = l; heap = h }) (turns.turn tagged Copies u marks c st l) (go (record { turns = k; own = l; heap = h })))
       → Follows u fits d st t (record { task = Leaf (plain c st (record { turns = t; own = l; heap = h })); heap = h }) (spend (record { turns = t; own = l; heap = h }) go)
   spending c d st due zero l h go f =
-      (le_refl 0, no_turns_room, plain c st (record { turns = 0; own = l; heap = h }), ap (λ z. over z) (due 0 l), stay (named Copies u) (memory u) fits _)
-  spending c d st due (suc k) l h go f = by_turn c d st due (record { turns = k; own = l; heap = h }) (turns.turn tagged Copies u marks c st l) (go (record { turns = k; own = l; heap = h })) refl (f k refl)
+      (le_refl 0, no-turns-room, plain c st (record { turns = 0; own = l; heap = h }), ap (λ z. over z) (due 0 l), stay (named Copies u) (memory u) fits _)
+  spending c d st due (suc k) l h go f = by-turn c d st due (record { turns = k; own = l; heap = h }) (turns.turn tagged Copies u marks c st l) (go (record { turns = k; own = l; heap = h })) refl (f k refl)
 
   -- a branch that traps
-  pub dies_follows : (c d : Code) (st : List Frame) (m : Moment) (h : Heap) (at : Span) (k : TrapKind)
+  pub dies-follows : (c d : Code) (st : List Frame) (m : Moment) (h : Heap) (at : Span) (k : TrapKind)
       → Follows u fits d st m.turns (record { task = then_task c st m (Dies (Trapped k at)); heap = h }) (Fails (Trapped k at) m.turns m.own.printed h)
-  dies_follows c d st m h at k =
-      (le_refl m.turns, trapped_room k at, record { own = record m.own { vars = [] }; turns = m.turns; code = End; stack = []; close = Some (Failing (Trapped k at)) }, refl, stay (named Copies u) (memory u) fits _)
+  dies-follows c d st m h at k =
+      (le_refl m.turns, trapped-room k at, record { own = record m.own { vars = [] }; turns = m.turns; code = End; stack = []; close = Some (Failing (Trapped k at)) }, refl, stay (named Copies u) (memory u) fits _)
 
   -- a branch that goes on with other code
-  pub on_follows : (c d c1 : Code) (st st1 : List Frame) (m : Moment) (l : Own) (h : Heap) (r : Result)
+  pub on-follows : (c d c1 : Code) (st st1 : List Frame) (m : Moment) (l : Own) (h : Heap) (r : Result)
       → Follows u fits d st m.turns (going u c1 st1 (record { turns = m.turns; own = l; heap = h })) r
       → Follows u fits d st m.turns (record { task = then_task c st m (On l c1 st1); heap = h }) r
-  on_follows c d c1 st st1 m l h r f = subst (λ (z : Branch). Follows u fits d st m.turns (record { task = Leaf z; heap = h }) r) (sym (settles u l m.turns c st l.vars c1 st1)) f
+  on-follows c d c1 st st1 m l h r f = subst (λ (z : Branch). Follows u fits d st m.turns (record { task = Leaf z; heap = h }) r) (sym (settles u l m.turns c st l.vars c1 st1)) f
 
   -- the same, said of what it comes to
-  on_reach : (c c1 : Code) (st st1 : List Frame) (m : Moment) (l : Own) (h : Heap)
+  on-reach : (c c1 : Code) (st st1 : List Frame) (m : Moment) (l : Own) (h : Heap)
       → Reach u fits (record { task = then_task c st m (On l c1 st1); heap = h }) (going u c1 st1 (record { turns = m.turns; own = l; heap = h }))
-  on_reach c c1 st st1 m l h =
+  on-reach c c1 st st1 m l h =
       subst (λ (z : Branch). Reach u fits (record { task = Leaf z; heap = h }) (going u c1 st1 (record { turns = m.turns; own = l; heap = h }))) (sym (settles u l m.turns c st l.vars c1 st1))
       (stay (named Copies u) (memory u) fits _)
 
   -- one way of two
-  pub test_to : (c d : Code) (st : List Frame) (m : Moment) (e : Eval Held) (at : Span) (a b : Turn Held Mark Op) (f g : Moment → Result)
+  pub test-to : (c d : Code) (st : List Frame) (m : Moment) (e : Eval Held) (at : Span) (a b : Turn Held Mark Op) (f g : Moment → Result)
       → TurnTo c d st m a (f m) → TurnTo c d st m b (g m) → TurnTo c d st m (turns.on_test tagged Copies e at a b) (meaning.on_test e at m f g)
-  test_to c d st m (Gives (Some (Truth true))) at a b f g x y = x
-  test_to c d st m (Gives (Some (Truth false))) at a b f g x y = y
-  test_to c d st m (Gives _) at a b f g x y = tt
-  test_to c d st m (Traps k) at a b f g x y = dies_follows c d st m m.heap at k
-  test_to c d st m Mistyped at a b f g x y = tt
+  test-to c d st m (Gives (Some (Truth true))) at a b f g x y = x
+  test-to c d st m (Gives (Some (Truth false))) at a b f g x y = y
+  test-to c d st m (Gives _) at a b f g x y = tt
+  test-to c d st m (Traps k) at a b f g x y = dies-follows c d st m m.heap at k
+  test-to c d st m Mistyped at a b f g x y = tt
 
   -- one branch more, if the depth allows it
-  pub depth_to : (c d : Code) (st : List Frame) (m : Moment) (t : Bool) (at : Span) (a : Turn Held Mark Op) (f : Moment → Result) → TurnTo c d st m a (f m)
+  pub depth-to : (c d : Code) (st : List Frame) (m : Moment) (t : Bool) (at : Span) (a : Turn Held Mark Op) (f : Moment → Result) → TurnTo c d st m a (f m)
       → TurnTo c d st m (cond t a (turns.trap tagged Copies at StackOverflow)) (choose t f (meaning.trap at StackOverflow) m)
-  depth_to c d st m true at a f x = x
-  depth_to c d st m false at a f x = dies_follows c d st m m.heap at StackOverflow
+  depth-to c d st m true at a f x = x
+  depth-to c d st m false at a f x = dies-follows c d st m m.heap at StackOverflow
 
   -- ---------- values that are given ----------
   -- a value for the recover block that stands below
-  handed_to : (c : Code) (st : List Frame) (m : Moment) (w x : ℕ) (v : Held) → TurnTo c End st m (turns.given_back tagged Copies (Gives v) w x st m.own) (Handed x v (set_vars m (clear tagged m.own.vars w)))
-  handed_to c [] m w x v = (omega arith, tt)
-  handed_to c (OpenBlock own rest ∷ st) m w x v = (omega arith, tt)
-  handed_to c (OpenCall tie into y saved lent caller rest ∷ st) m w x v = (omega arith, tt)
-  handed_to c (OpenRecover own hides saved rest ∷ st) m w x v =
-      (le_refl m.turns, on_reach c rest (OpenRecover own hides saved rest ∷ st) st m (record m.own { vars = assign (clear_all tagged (clear tagged m.own.vars w) own) x v }) m.heap)
+  handed-to : (c : Code) (st : List Frame) (m : Moment) (w x : ℕ) (v : Held) → TurnTo c End st m (turns.given_back tagged Copies (Gives v) w x st m.own) (Handed x v (set_vars m (clear tagged m.own.vars w)))
+  handed-to c [] m w x v = (omega arith, tt)
+  handed-to c (OpenBlock own rest ∷ st) m w x v = (omega arith, tt)
+  handed-to c (OpenCall tie into y saved lent caller rest ∷ st) m w x v = (omega arith, tt)
+  handed-to c (OpenRecover own hides saved rest ∷ st) m w x v =
+      (le_refl m.turns, on-reach c rest (OpenRecover own hides saved rest ∷ st) st m (record m.own { vars = assign (clear_all tagged (clear tagged m.own.vars w) own) x v }) m.heap)
 
   -- the same of what a variable holds
-  pub give_to : (c : Code) (st : List Frame) (m : Moment) (w x : ℕ) (at : Span) (s : Option Held)
+  pub give-to : (c : Code) (st : List Frame) (m : Moment) (w x : ℕ) (at : Span) (s : Option Held)
       → TurnTo c End st m (turns.given_back tagged Copies (held tagged s) w x st m.own) (meaning.on_value (held tagged s) at m (λ v. Handed x v (set_vars m (clear tagged m.own.vars w))))
-  give_to c st m w x at None = tt
-  give_to c st m w x at (Some None) = tt
-  give_to c st m w x at (Some (Some v)) = handed_to c st m w x (Some v)
+  give-to c st m w x at None = tt
+  give-to c st m w x at (Some None) = tt
+  give-to c st m w x at (Some (Some v)) = handed-to c st m w x (Some v)
 
   -- a value for the call that stands below, or for the whole run
-  gave_to : (c : Code) (st : List Frame) (m : Moment) (v : Held) → TurnTo c End st m (turns.returned tagged Copies v st m.own) (Gave v m)
-  gave_to c [] m v =
+  gave-to : (c : Code) (st : List Frame) (m : Moment) (v : Held) → TurnTo c End st m (turns.returned tagged Copies v st m.own) (Gave v m)
+  gave-to c [] m v =
       (le_refl m.turns, (record { own = record m.own { vars = [] }; turns = m.turns; code = End; stack = []; close = Some (Returning v) }, refl, stay (named Copies u) (memory u) fits _))
-  gave_to c (OpenBlock own rest ∷ st) m v = (omega arith, tt)
-  gave_to c (OpenRecover own hides saved rest ∷ st) m v = (omega arith, tt)
-  gave_to c (OpenCall tie into y saved lent caller rest ∷ st) m v =
-      (le_refl m.turns, on_reach c rest (OpenCall tie into y saved lent caller rest ∷ st) st m (record m.own { vars = assign_into (turns.lent_back lent y saved) into v; routine = caller; depth = m.own.depth - 1 }) m.heap)
+  gave-to c (OpenBlock own rest ∷ st) m v = (omega arith, tt)
+  gave-to c (OpenRecover own hides saved rest ∷ st) m v = (omega arith, tt)
+  gave-to c (OpenCall tie into y saved lent caller rest ∷ st) m v =
+      (le_refl m.turns, on-reach c rest (OpenCall tie into y saved lent caller rest ∷ st) st m (record m.own { vars = assign_into (turns.lent_back lent y saved) into v; routine = caller; depth = m.own.depth - 1 }) m.heap)
 
   -- the same of what an expression gives
-  pub return_to : (c : Code) (st : List Frame) (m : Moment) (e : Eval Held) (at : Span)
+  pub return-to : (c : Code) (st : List Frame) (m : Moment) (e : Eval Held) (at : Span)
       → TurnTo c End st m (turns.on_value tagged Copies e at (λ v. turns.returned tagged Copies v st m.own)) (meaning.on_value e at m (λ v. Gave v m))
-  return_to c st m (Gives v) at = gave_to c st m v
-  return_to c st m (Traps k) at = dies_follows c End st m m.heap at k
-  return_to c st m Mistyped at = tt
+  return-to c st m (Gives v) at = gave-to c st m v
+  return-to c st m (Traps k) at = dies-follows c End st m m.heap at k
+  return-to c st m Mistyped at = tt

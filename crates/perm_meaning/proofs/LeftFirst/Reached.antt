@@ -64,24 +64,24 @@ module _ (u : UnitCode) (fits : ℕ → Bool) where
   Follows c st n s Stuck = Unit {0}
 
   -- the same from an earlier state
-  gives_along : (st : List Frame) (s t : State) (v : Held) (m : Moment) → Reach s t → GivesBack st t v m → GivesBack st s v m
-  gives_along [] s t v m l f = (f.0, f.1, lead (named Copies u) (memory u) fits s t (record { task = Leaf f.0; heap = m.heap }) l f.2)
-  gives_along (OpenCall tie into y saved lent caller rest ∷ st) s t v m l f = lead (named Copies u) (memory u) fits s t _ l f
-  gives_along (OpenBlock own rest ∷ st) s t v m l f = tt
-  gives_along (OpenRecover own hides saved rest ∷ st) s t v m l f = tt
+  gives-along : (st : List Frame) (s t : State) (v : Held) (m : Moment) → Reach s t → GivesBack st t v m → GivesBack st s v m
+  gives-along [] s t v m l f = (f.0, f.1, lead (named Copies u) (memory u) fits s t (record { task = Leaf f.0; heap = m.heap }) l f.2)
+  gives-along (OpenCall tie into y saved lent caller rest ∷ st) s t v m l f = lead (named Copies u) (memory u) fits s t _ l f
+  gives-along (OpenBlock own rest ∷ st) s t v m l f = tt
+  gives-along (OpenRecover own hides saved rest ∷ st) s t v m l f = tt
 
   -- the same of a value for a recover block
-  hands_along : (st : List Frame) (s t : State) (x : ℕ) (v : Held) (m : Moment) → Reach s t → HandsOn st t x v m → HandsOn st s x v m
-  hands_along [] s t x v m l f = tt
-  hands_along (OpenRecover own hides saved rest ∷ st) s t x v m l f = lead (named Copies u) (memory u) fits s t _ l f
-  hands_along (OpenBlock own rest ∷ st) s t x v m l f = tt
-  hands_along (OpenCall tie into y saved lent caller rest ∷ st) s t x v m l f = tt
+  hands-along : (st : List Frame) (s t : State) (x : ℕ) (v : Held) (m : Moment) → Reach s t → HandsOn st t x v m → HandsOn st s x v m
+  hands-along [] s t x v m l f = tt
+  hands-along (OpenRecover own hides saved rest ∷ st) s t x v m l f = lead (named Copies u) (memory u) fits s t _ l f
+  hands-along (OpenBlock own rest ∷ st) s t x v m l f = tt
+  hands-along (OpenCall tie into y saved lent caller rest ∷ st) s t x v m l f = tt
 
   -- the same of any meaning
   pub along : (c : Code) (st : List Frame) (n : ℕ) (s t : State) (r : Result) → Reach s t → Follows c st n t r → Follows c st n s r
   along c st n s t (Well m) l f = (f.0, lead (named Copies u) (memory u) fits s t (going u c st m) l f.1)
-  along c st n s t (Gave v m) l f = (f.0, gives_along st s t v m l f.1)
-  along c st n s t (Handed x v m) l f = (f.0, hands_along st s t x v m l f.1)
+  along c st n s t (Gave v m) l f = (f.0, gives-along st s t v m l f.1)
+  along c st n s t (Handed x v m) l f = (f.0, hands-along st s t x v m l f.1)
   along c st n s t (Fails e w p h) l f = (f.0, f.1, f.2, f.3, lead (named Copies u) (memory u) fits s t (record { task = Leaf f.2; heap = h }) l f.4)
   along c st n s t Full l f = (f.0, lead (named Copies u) (memory u) fits s t f.0 l f.1, f.2)
   along c st n s t Stuck l f = tt
@@ -96,25 +96,25 @@ module _ (u : UnitCode) (fits : ℕ → Bool) where
   more c st n k s Stuck le f = tt
 
   -- one stretch after another
-  pub then_follows : (c d : Code) (st st1 : List Frame) (n : ℕ) (s : State) (r : Result) (go : Moment → Result) → Follows c st n s r
+  pub then-follows : (c d : Code) (st st1 : List Frame) (n : ℕ) (s : State) (r : Result) (go : Moment → Result) → Follows c st n s r
       → ((m : Moment) → m.turns ≤ n → Follows d st1 m.turns (going u c st m) (go m)) → Follows d st1 n s (then_do r go)
-  then_follows c d st st1 n s (Well m) go f g = along d st1 n s (going u c st m) (go m) f.1 (more d st1 m.turns n (going u c st m) (go m) f.0 (g m f.0))
-  then_follows c d st st1 n s (Gave v m) go f g = tt
-  then_follows c d st st1 n s (Handed x v m) go f g = tt
-  then_follows c d st st1 n s (Fails e w p h) go f g = f
-  then_follows c d st st1 n s Full go f g = f
-  then_follows c d st st1 n s Stuck go f g = tt
+  then-follows c d st st1 n s (Well m) go f g = along d st1 n s (going u c st m) (go m) f.1 (more d st1 m.turns n (going u c st m) (go m) f.0 (g m f.0))
+  then-follows c d st st1 n s (Gave v m) go f g = tt
+  then-follows c d st st1 n s (Handed x v m) go f g = tt
+  then-follows c d st st1 n s (Fails e w p h) go f g = f
+  then-follows c d st st1 n s Full go f g = f
+  then-follows c d st st1 n s Stuck go f g = tt
 
   -- the end of a block costs no event
-  pub close_follows : (own : List ℕ) (rest : Code) (st : List Frame) (n : ℕ) (s : State) (r : Result) → Follows End (OpenBlock own rest ∷ st) n s r → Follows rest st n s (close own r)
-  close_follows own rest st n s r f = then_follows End rest (OpenBlock own rest ∷ st) st n s r _ f (λ m le. (le_refl m.turns, stay (named Copies u) (memory u) fits _))
+  pub close-follows : (own : List ℕ) (rest : Code) (st : List Frame) (n : ℕ) (s : State) (r : Result) → Follows End (OpenBlock own rest ∷ st) n s r → Follows rest st n s (close own r)
+  close-follows own rest st n s r f = then-follows End rest (OpenBlock own rest ∷ st) st n s r _ f (λ m le. (le_refl m.turns, stay (named Copies u) (memory u) fits _))
 
   -- the end of a recover block
-  pub recovered_follows : (own hides : List ℕ) (saved : List Held) (rest : Code) (st : List Frame) (n : ℕ) (s : State) (r : Result)
+  pub recovered-follows : (own hides : List ℕ) (saved : List Held) (rest : Code) (st : List Frame) (n : ℕ) (s : State) (r : Result)
       → Follows End (OpenRecover own hides saved rest ∷ st) n s r → Follows rest st n s (recovered own r)
-  recovered_follows own hides saved rest st n s (Well m) f = tt
-  recovered_follows own hides saved rest st n s (Gave v m) f = tt
-  recovered_follows own hides saved rest st n s (Handed x v m) f = f
-  recovered_follows own hides saved rest st n s (Fails e w p h) f = f
-  recovered_follows own hides saved rest st n s Full f = f
-  recovered_follows own hides saved rest st n s Stuck f = tt
+  recovered-follows own hides saved rest st n s (Well m) f = tt
+  recovered-follows own hides saved rest st n s (Gave v m) f = tt
+  recovered-follows own hides saved rest st n s (Handed x v m) f = f
+  recovered-follows own hides saved rest st n s (Fails e w p h) f = f
+  recovered-follows own hides saved rest st n s Full f = f
+  recovered-follows own hides saved rest st n s Stuck f = tt

@@ -10,15 +10,15 @@ use Rattle.perm_meaning.specs.Custody.{Copies, Moves, back_l, back_r, merged, wr
 use Rattle.perm_meaning.specs.Expressions.{tagged, clear, clear_all, cleared_slot}
 use Rattle.perm_meaning.specs.Steady.{AreApart, stays_l, stays_r, IsSteadyPar, IsSteadyCode}
 use Rattle.perm_meaning.specs.HoldsFewer.{Frame, IsPart, AreParts, hidden, FitsStacks, at_base, at_block, left_of, LeavesAlone, in_base, in_block, BranchHoldsFewer, going, gone, TaskHoldsFewer, leaf, fork, FinalHoldsFewer, JoinHoldsFewer, at_recover, at_call}
-use Rattle.perm_meaning.proofs.Leads.{some_inj, none_some}
-use Rattle.perm_meaning.proofs.OnWords.Related.{vars_length, vars_set}
+use Rattle.perm_meaning.proofs.Leads.{some-inj, none-some}
+use Rattle.perm_meaning.proofs.OnWords.Related.{vars-length, vars-set}
 use Rattle.perm_meaning.proofs.MovesAndCopies.Parts.{parts-at, parts-then}
 use Rattle.perm_meaning.proofs.MovesAndCopies.KeptVariables.{kept-same, kept-cleared, cleared-is, on-then, on-block-end}
 use Rattle.perm_meaning.proofs.MovesAndCopies.Stacks.{stacks-other-variables, side-other-variables, side-variables}
 use Rattle.perm_meaning.proofs.MovesAndCopies.Merges.{join-kept, join-parts, join-side}
 
 pub parts-clear : (vs ws : List Held) (y : ℕ) → AreParts vs ws → AreParts (clear tagged vs y) (clear tagged ws y)
-parts-clear vs ws y h = vars_set IsPart vs ws y (cleared_slot tagged (slice_get vs y)) (cleared_slot tagged (slice_get ws y)) h (subst (λ z. IsPart z (cleared_slot tagged (slice_get ws y))) (sym (cleared-is (slice_get vs y))) tt)
+parts-clear vs ws y h = vars-set IsPart vs ws y (cleared_slot tagged (slice_get vs y)) (cleared_slot tagged (slice_get ws y)) h (subst (λ z. IsPart z (cleared_slot tagged (slice_get ws y))) (sym (cleared-is (slice_get vs y))) tt)
 
 pub parts-clear-all : (own : List ℕ) (vs ws : List Held) → AreParts vs ws → AreParts (clear_all tagged vs own) (clear_all tagged ws own)
 parts-clear-all [] vs ws h = h
@@ -64,14 +64,14 @@ module _ (K : Vars) (vp : List Held) where
   stage-fewer (gone {l = l} {t = t} {c = c} {st = st} {e = e}) = by-close-fewer l t c st e
 
   over-fewer : (x y : Stage Held) → StageHoldsFewer x y → (f : Final) → over x ≡ Some f → (g : Final) × (over y ≡ Some g) × FinalHoldsFewer K vp f g
-  over-fewer (Over z) (Over g) h f e = (g, refl, subst (λ i. FinalHoldsFewer K vp i g) (some_inj e) h)
+  over-fewer (Over z) (Over g) h f e = (g, refl, subst (λ i. FinalHoldsFewer K vp i g) (some-inj e) h)
   over-fewer (Over z) (Due n) h f e = absurd h
-  over-fewer (Due t) y h f e = none_some e
+  over-fewer (Due t) y h f e = none-some e
 
   -- trees end alike
   pub final-fewer : {t s : Task} → TaskHoldsFewer K vp t s → (f : Final) → final t ≡ Some f → (g : Final) × (final s ≡ Some g) × FinalHoldsFewer K vp f g
   final-fewer (leaf {b = b} {c = c} h) f e = over-fewer (stage b) (stage c) (stage-fewer h) f e
-  final-fewer (fork h o s b i a j p x y) f e = none_some e
+  final-fewer (fork h o s b i a j p x y) f e = none-some e
 
 -- ---------- ends of pars ----------
 module _ (u : UnitCode) (l : Own) (n : ℕ) (p : Blocks) (s : IsSteadyPar p) (os ws : List Held) (k : AreParts l.vars os) (o : AreParts os ws) (H J : Vars) (a : AreApart H (plus (writes_l p) (writes_r p))) (j : AreApart J (plus (writes_l p) (writes_r p))) (out : List ℤ) where
@@ -83,7 +83,7 @@ module _ (u : UnitCode) (l : Own) (n : ℕ) (p : Blocks) (s : IsSteadyPar p) (os
   join-fewer (Fine v1 t1 p1) (Fine v2 t2 p2) (Fine v3 t3 p3) (Fine v4 t4 p4) f g = (
     record {
       part = join-parts u n p s l.vars os ws v1 v2 v3 v4 k o f.0.part g.0.part f.0.less g.0.less f.0.long g.0.long;
-      kept = join-kept (writes_l p) (writes_r p) H ws v2 v4 (f.0.long ∙ vars_length IsPart os ws o) (g.0.long ∙ vars_length IsPart os ws o) a;
+      kept = join-kept (writes_l p) (writes_r p) H ws v2 v4 (f.0.long ∙ vars-length IsPart os ws o) (g.0.long ∙ vars-length IsPart os ws o) a;
       less = join-side u n p s l.vars os ws v1 v2 v3 v4 k o f.0.part g.0.part f.0.less g.0.less f.0.long g.0.long J j;
     },
     (λ i. f.1 i + g.1 i),

@@ -9,7 +9,7 @@ use Rattle.perm_meaning.specs.NamedHeap.{Held}
 use Rattle.perm_meaning.specs.Relate.{OptionR}
 use Rattle.perm_meaning.specs.Values.{Eval, Gives, Traps, Mistyped}
 use Rattle.perm_meaning.specs.HoldsFewer.{IsPart, AreParts}
-use Rattle.perm_meaning.proofs.OnWords.Related.{vars_at}
+use Rattle.perm_meaning.proofs.OnWords.Related.{vars-at}
 
 -- ---------- expressions ----------
 -- what is given is the same; of what is mistyped nothing is said
@@ -30,7 +30,7 @@ held-fewer (Some None) (Some w) h = tt
 held-fewer (Some (Some v)) (Some w) h = ap (λ z. held tagged (Some z)) h
 
 pub look-fewer : (vs ws : List Held) (x : ℕ) → AreParts vs ws → EvalHoldsFewer (look_up tagged vs x) (look_up tagged ws x)
-look-fewer vs ws x h = held-fewer (slice_get vs x) (slice_get ws x) (vars_at IsPart vs ws x h)
+look-fewer vs ws x h = held-fewer (slice_get vs x) (slice_get ws x) (vars-at IsPart vs ws x h)
 
 -- a variable that is read has its value
 pub read-variable : (v : Option Held) (z : Held) → held tagged v ≡ Gives z → v ≡ Some z

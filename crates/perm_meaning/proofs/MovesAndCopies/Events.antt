@@ -15,8 +15,8 @@ use Rattle.perm_meaning.specs.Effects.{Tick}
 use Rattle.perm_meaning.specs.Turns.{turn}
 use Rattle.perm_meaning.specs.Steady.{AreApart, stays_l, stays_r, IsSteadyCode, IsSteady}
 use Rattle.perm_meaning.specs.HoldsFewer.{Frame, IsPart, AreParts, hidden, at_base, left_of, in_base, BranchHoldsFewer, going, gone, TaskHoldsFewer, leaf, fork, StateHoldsFewer, DidHoldsFewer, on, splits, ends, dies}
-use Rattle.perm_meaning.proofs.Leads.{some_inj, none_some, then_some, then_at}
-use Rattle.perm_meaning.proofs.OnWords.Related.{vars_length}
+use Rattle.perm_meaning.proofs.Leads.{some-inj, none-some, then-some, then-at}
+use Rattle.perm_meaning.proofs.OnWords.Related.{vars-length}
 use Rattle.perm_meaning.proofs.MovesAndCopies.Parts.{parts-same, only-parts, parts-at}
 use Rattle.perm_meaning.proofs.MovesAndCopies.Ends.{settled-fewer, StageHoldsFewer, stage-fewer, final-fewer, join-fewer, resumed-fewer}
 use Rattle.perm_meaning.proofs.MovesAndCopies.Turns.{TurnHoldsFewer, turn-fewer}
@@ -35,7 +35,7 @@ module _ (u : UnitCode) (steady : IsSteady u) where
   side-begins : (M S : Vars) (l : Own) (t d : ℕ) (g : Mark) (c : Code) (ws : List Held) → AreParts l.vars ws → IsSteadyCode c → AreApart S (written c)
       → BranchHoldsFewer S l.vars (record { own = record l { vars = only tagged M l.vars; depth = d; printed = []; mark = g }; turns = t; code = c; stack = []; close = None })
       (record { own = record l { vars = ws; depth = d; printed = []; mark = g }; turns = t; code = c; stack = []; close = None })
-  side-begins M S l t d g c ws h s a = going (only-parts 0 M l.vars ws h) s (at_base (sym (vars_length IsPart l.vars ws h))) (in_base a (λ x q. parts-at (only tagged M l.vars) l.vars (only-parts 0 M l.vars l.vars (parts-same l.vars)) x))
+  side-begins M S l t d g c ws h s a = going (only-parts 0 M l.vars ws h) s (at_base (sym (vars-length IsPart l.vars ws h))) (in_base a (λ x q. parts-at (only tagged M l.vars) l.vars (only-parts 0 M l.vars l.vars (parts-same l.vars)) x))
 
   -- what a turn leaves
   done-fewer : {K : Vars} {vp : List Held} (l : Own) (t n : ℕ) (c : Code) (ws : List Held) (st st' : List Frame) → AreParts l.vars ws → (d e : Did Held Mark) → DidHoldsFewer K vp l ws st st' d e
@@ -52,7 +52,7 @@ module _ (u : UnitCode) (steady : IsSteady u) where
   told-fewer : {K : Vars} {vp : List Held} (l : Own) (t n : ℕ) (c : Code) (ws : List Held) (st st' : List Frame) → AreParts l.vars ws → (f g : Turn Held Mark Op) → TurnHoldsFewer K vp l ws st st' f g → (o : Op) → turn_op (named Moves u) f ≡ Some o
       → (turn_op (named Copies u) g ≡ Some o)
       × ((v : Option Held) → TaskHoldsFewer K vp (told_to (named Moves u) (record { own = l; turns = t; code = c; stack = st; close = None }) n f v) (told_to (named Copies u) (record { own = record l { vars = ws }; turns = t; code = c; stack = st'; close = None }) n g v))
-  told-fewer l t n c ws st st' h NoTurn g k o e = none_some e
+  told-fewer l t n c ws st st' h NoTurn g k o e = none-some e
   told-fewer l t n c ws st st' h (Takes q told) NoTurn k o e = absurd k
   told-fewer {K} {vp} l t n c ws st st' h (Takes q told) (Takes p said) k o e = (ap (λ z. Some z) (sym k.0) ∙ e, go)
     where
@@ -74,11 +74,11 @@ module _ (u : UnitCode) (steady : IsSteady u) where
       y = record { own = record l { vars = ws }; turns = t; code = c; stack = st'; close = None }
 
       go : (z z' : Stage Held) → StageHoldsFewer K vp z z' → leaf_op (named Moves u) x z ≡ Some o → LeafHoldsFewer K vp x y z z' o
-      go (Over f) z' k e = none_some e
+      go (Over f) z' k e = none-some e
       go (Due n) (Over f) k e = absurd k
       go (Due n) (Due m) k e = subst (λ z. LeafHoldsFewer K vp x y (Due n) (Due z) o) k (told-fewer l t n c ws st st' h (turn tagged Moves u marks c st l) (turn tagged Copies u marks c st' (record l { vars = ws })) (turn-fewer u steady l ws h c s b i) o e)
-  leaf-fewer (gone {e = Returning v}) o e = none_some e
-  leaf-fewer (gone {e = Failing f}) o e = none_some e
+  leaf-fewer (gone {e = Returning v}) o e = none-some e
+  leaf-fewer (gone {e = Failing f}) o e = none-some e
 
   -- ---------- trees ----------
   -- the other machine has the event too, and whatever both are told, the trees stay related
@@ -87,8 +87,8 @@ module _ (u : UnitCode) (steady : IsSteady u) where
 
   pub event-fewer : {K : Vars} {vp : List Held} {t s : Task} → TaskHoldsFewer K vp t s → (w : Way) (o : Op) → look (named Moves u) w t ≡ Some o → EventHoldsFewer K vp w t s o
   event-fewer (leaf b) Here o e = leaf-fewer b o e
-  event-fewer (leaf b) (GoL w) o e = none_some e
-  event-fewer (leaf b) (GoR w) o e = none_some e
+  event-fewer (leaf b) (GoL w) o e = none-some e
+  event-fewer (leaf b) (GoR w) o e = none-some e
   event-fewer (fork h q s b i a j p x y) (GoL w) o e = let z = event-fewer x w o e in (z.0, λ v. fork h q s b i a j p (z.1 v) y)
   event-fewer (fork h q s b i a j p x y) (GoR w) o e = let z = event-fewer y w o e in (z.0, λ v. fork h q s b i a j p x (z.1 v))
   event-fewer {K} {vp} (fork {l = l} {t = t} {c = c} {os = os} {ws = ws} {st = st} {st' = st'} {p = p} {x = x} {y = y} {x' = x'} {y' = y'} h h' s b sd a ad q k r) Here o e = go (final x) (final y) refl refl e
@@ -112,8 +112,8 @@ module _ (u : UnitCode) (steady : IsSteady u) where
           × ((v : Option Held) → TaskHoldsFewer K vp (if_both_over f g (Fork m p x y) joined) (if_both_over f' g' (Fork m' p x' y') joined'))
 
       go : (f g : Option Final) → final x ≡ f → final y ≡ g → if_both_over f g None (λ x y. Some Tick) ≡ Some o → at (final x) (final y) (final x') (final y')
-      go None g i j e = none_some e
-      go (Some f) None i j e = none_some e
+      go None g i j e = none-some e
+      go (Some f) None i j e = none-some e
       go (Some f) (Some g) i j e =
           let f' = final-fewer _ _ k f i in
           let g' = final-fewer _ _ r g j in
@@ -127,7 +127,7 @@ module _ (u : UnitCode) (steady : IsSteady u) where
     step-fewer s s' s1 w h e = go (look (named Moves u) w s.task) refl e
       where
         go : (o : Option Op) → look (named Moves u) w s.task ≡ o → asked (named Moves u) (memory u) fits s w o ≡ Some s1 → (t : State) × (step (named Copies u) (memory u) fits s' w ≡ Some t) × StateHoldsFewer K vp s1 t
-        go None i e = none_some e
+        go None i e = none-some e
         go (Some o) i e = found (found-at s.heap) refl e
           where
             ev : EventHoldsFewer K vp w s.task s'.task o
@@ -140,14 +140,14 @@ module _ (u : UnitCode) (steady : IsSteady u) where
             same = ap (λ z. asked (named Copies u) (memory u) fits s' w z) ev.0 ∙ ap (λ z. answered (named Copies u) (memory u) fits s' w o (found-at z)) h.1
 
             found : (a : Answer Held) → found-at s.heap ≡ a → answered (named Moves u) (memory u) fits s w o a ≡ Some s1 → (t : State) × (step (named Copies u) (memory u) fits s' w ≡ Some t) × StateHoldsFewer K vp s1 t
-            found (Found v) j e = (_, same ∙ ap (λ z. answered (named Copies u) (memory u) fits s' w o z) j, subst (λ z. StateHoldsFewer K vp z (record { task = fill (named Copies u) w s'.task (Some v); heap = (memory u).after fits o s'.heap })) (some_inj e) (ev.1 (Some v), ap (λ z. (memory u).after fits o z) h.1))
-            found Refused j e = (_, same ∙ ap (λ z. answered (named Copies u) (memory u) fits s' w o z) j, subst (λ z. StateHoldsFewer K vp z (record { task = fill (named Copies u) w s'.task None; heap = (memory u).after fits o s'.heap })) (some_inj e) (ev.1 None, ap (λ z. (memory u).after fits o z) h.1))
-            found Missing j e = none_some e
+            found (Found v) j e = (_, same ∙ ap (λ z. answered (named Copies u) (memory u) fits s' w o z) j, subst (λ z. StateHoldsFewer K vp z (record { task = fill (named Copies u) w s'.task (Some v); heap = (memory u).after fits o s'.heap })) (some-inj e) (ev.1 (Some v), ap (λ z. (memory u).after fits o z) h.1))
+            found Refused j e = (_, same ∙ ap (λ z. answered (named Copies u) (memory u) fits s' w o z) j, subst (λ z. StateHoldsFewer K vp z (record { task = fill (named Copies u) w s'.task None; heap = (memory u).after fits o s'.heap })) (some-inj e) (ev.1 None, ap (λ z. (memory u).after fits o z) h.1))
+            found Missing j e = none-some e
 
     pub runs-fewer : (es : List Way) (s s' s1 : State) → StateHoldsFewer K vp s s' → runs (step (named Moves u) (memory u) fits) es s ≡ Some s1 → (t : State) × (runs (step (named Copies u) (memory u) fits) es s' ≡ Some t) × StateHoldsFewer K vp s1 t
-    runs-fewer [] s s' s1 h e = (s', refl, subst (λ z. StateHoldsFewer K vp z s') (some_inj e) h)
+    runs-fewer [] s s' s1 h e = (s', refl, subst (λ z. StateHoldsFewer K vp z s') (some-inj e) h)
     runs-fewer (w ∷ es) s s' s1 h e =
-        let a = then_some (step (named Moves u) (memory u) fits s w) (runs (step (named Moves u) (memory u) fits) es) s1 e in
+        let a = then-some (step (named Moves u) (memory u) fits s w) (runs (step (named Moves u) (memory u) fits) es) s1 e in
         let b = step-fewer s s' a.0 w h a.1 in
         let c = runs-fewer es a.0 b.0 s1 b.2 a.2 in
-        (c.0, then_at (step (named Copies u) (memory u) fits s' w) (runs (step (named Copies u) (memory u) fits) es) b.0 b.1 ∙ c.1, c.2)
+        (c.0, then-at (step (named Copies u) (memory u) fits s' w) (runs (step (named Copies u) (memory u) fits) es) b.0 b.1 ∙ c.1, c.2)

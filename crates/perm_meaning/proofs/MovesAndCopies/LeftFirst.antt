@@ -9,7 +9,7 @@ use Rattle.perm_meaning.specs.Custody.{Copies, Moves}
 use Rattle.perm_meaning.specs.Outcome.{reported}
 use Rattle.perm_meaning.specs.Steady.{IsSteady}
 use Rattle.perm_meaning.specs.HoldsFewer.{TaskHoldsFewer, leaf, fork, StateHoldsFewer, FinalHoldsFewer}
-use Rattle.perm_meaning.proofs.Leads.{some_inj, none_some, then_some, then_at}
+use Rattle.perm_meaning.proofs.Leads.{some-inj, none-some, then-some, then-at}
 use Rattle.perm_meaning.proofs.MovesAndCopies.Ends.{StageHoldsFewer, stage-fewer}
 use Rattle.perm_meaning.proofs.MovesAndCopies.Events.{EventHoldsFewer, event-fewer}
 
@@ -64,7 +64,7 @@ module _ (u : UnitCode) (steady : IsSteady u) where
     careful-fewer s s' s1 w h e = go (look (named Moves u) w s.task) refl e
       where
         go : (o : Option Op) → look (named Moves u) w s.task ≡ o → asked_with_care (named Moves u) (memory u) fits s w o ≡ Some s1 → (t : State) × (careful (named Copies u) (memory u) fits s' w ≡ Some t) × StateHoldsFewer K vp s1 t
-        go None i e = none_some e
+        go None i e = none-some e
         go (Some o) i e = answer (found-at s.heap) refl e
           where
             ev : EventHoldsFewer u steady K vp w s.task s'.task o
@@ -77,15 +77,15 @@ module _ (u : UnitCode) (steady : IsSteady u) where
             same = ap (λ z. asked_with_care (named Copies u) (memory u) fits s' w z) ev.0 ∙ ap (λ z. granted (named Copies u) (memory u) fits s' w o (found-at z)) h.1
 
             answer : (a : Answer Held) → found-at s.heap ≡ a → granted (named Moves u) (memory u) fits s w o a ≡ Some s1 → (t : State) × (careful (named Copies u) (memory u) fits s' w ≡ Some t) × StateHoldsFewer K vp s1 t
-            answer (Found v) j e = (_, same ∙ ap (λ z. granted (named Copies u) (memory u) fits s' w o z) j, subst (λ z. StateHoldsFewer K vp z (record { task = fill (named Copies u) w s'.task (Some v); heap = (memory u).after fits o s'.heap })) (some_inj e) (ev.1 (Some v), ap (λ z. (memory u).after fits o z) h.1))
-            answer Refused j e = none_some e
-            answer Missing j e = none_some e
+            answer (Found v) j e = (_, same ∙ ap (λ z. granted (named Copies u) (memory u) fits s' w o z) j, subst (λ z. StateHoldsFewer K vp z (record { task = fill (named Copies u) w s'.task (Some v); heap = (memory u).after fits o s'.heap })) (some-inj e) (ev.1 (Some v), ap (λ z. (memory u).after fits o z) h.1))
+            answer Refused j e = none-some e
+            answer Missing j e = none-some e
 
     -- left first, the machine that copies goes as the one that moves
     pub alone-fewer : (n : ℕ) (s s' s1 : State) → StateHoldsFewer K vp s s' → alone (named Moves u) (memory u) fits n s ≡ Some s1 → (t : State) × (alone (named Copies u) (memory u) fits n s' ≡ Some t) × StateHoldsFewer K vp s1 t
-    alone-fewer zero s s' s1 h e = (s', refl, subst (λ z. StateHoldsFewer K vp z s') (some_inj e) h)
+    alone-fewer zero s s' s1 h e = (s', refl, subst (λ z. StateHoldsFewer K vp z s') (some-inj e) h)
     alone-fewer (suc n) s s' s1 h e =
-        let a = then_some (careful (named Moves u) (memory u) fits s (leftmost s.task)) (alone (named Moves u) (memory u) fits n) s1 e in
+        let a = then-some (careful (named Moves u) (memory u) fits s (leftmost s.task)) (alone (named Moves u) (memory u) fits n) s1 e in
         let b = careful-fewer s s' a.0 (leftmost s.task) h a.1 in
         let c = alone-fewer n a.0 b.0 s1 b.2 a.2 in
-        (c.0, then_at (careful (named Copies u) (memory u) fits s' (leftmost s'.task)) (alone (named Copies u) (memory u) fits n) b.0 (ap (λ w. careful (named Copies u) (memory u) fits s' w) (sym (leftmost-alike h.0)) ∙ b.1) ∙ c.1, c.2)
+        (c.0, then-at (careful (named Copies u) (memory u) fits s' (leftmost s'.task)) (alone (named Copies u) (memory u) fits n) b.0 (ap (λ w. careful (named Copies u) (memory u) fits s' w) (sym (leftmost-alike h.0)) ∙ b.1) ∙ c.1, c.2)

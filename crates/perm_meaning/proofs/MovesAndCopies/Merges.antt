@@ -9,7 +9,7 @@ use Rattle.perm_meaning.specs.Custody.{mentions_l, mentions_r, back_l, back_r, f
 use Rattle.perm_meaning.specs.Machine.{Blocks}
 use Rattle.perm_meaning.specs.Steady.{AreApart, stays_l, stays_r, IsSteadyPar}
 use Rattle.perm_meaning.specs.HoldsFewer.{IsPart, AreParts, IsPartAt, ArePartsOn, AreKept}
-use Rattle.perm_meaning.proofs.OnWords.Related.{vars_length}
+use Rattle.perm_meaning.proofs.OnWords.Related.{vars-length}
 use Rattle.perm_meaning.proofs.MovesAndCopies.Parts.{parts-at, part-at-then, parts-from-places, either-length, either-at}
 use Rattle.perm_meaning.proofs.MovesAndCopies.KeptVariables.{apart-left, apart-right}
 
@@ -39,16 +39,16 @@ in-first-alone s t e f = and_from s (not t) e (ap not f)
 module _ (u : UnitCode) (n : ℕ) (p : Blocks) (s : IsSteadyPar p) (kv os ws ls ls' rs rs' : List Held) (k : AreParts kv os) (o : AreParts os ws) (l : AreParts ls ls') (r : AreParts rs rs') (kl : ArePartsOn (stays_l p) ls os) (kr : ArePartsOn (stays_r p) rs os)
     (ll : length ls' ≡ length os) (lr : length rs' ≡ length os) where
   kept-length : length kv ≡ length os
-  kept-length = vars_length IsPart kv os k
+  kept-length = vars-length IsPart kv os k
 
   copied-length : length os ≡ length ws
-  copied-length = vars_length IsPart os ws o
+  copied-length = vars-length IsPart os ws o
 
   left-length : length ls ≡ length kv
-  left-length = vars_length IsPart ls ls' l ∙ ll ∙ sym kept-length
+  left-length = vars-length IsPart ls ls' l ∙ ll ∙ sym kept-length
 
   right-length : length rs ≡ length kv
-  right-length = vars_length IsPart rs rs' r ∙ lr ∙ sym kept-length
+  right-length = vars-length IsPart rs rs' r ∙ lr ∙ sym kept-length
 
   -- what comes back from the sides under moves is a part of what comes back under copies
   pub join-parts : AreParts (merged (back_l u n p) (back_r u n p) kv ls rs) (merged (writes_l p) (writes_r p) ws ls' rs')

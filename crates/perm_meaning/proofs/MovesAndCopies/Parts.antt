@@ -7,8 +7,8 @@ use Rattle.perm_meaning.specs.NamedHeap.{Held}
 use Rattle.perm_meaning.specs.Custody.{from_either_at, only_at}
 use Rattle.perm_meaning.specs.Relate.{OptionR}
 use Rattle.perm_meaning.specs.HoldsFewer.{IsPart, AreParts, IsPartAt}
-use Rattle.perm_meaning.proofs.Leads.{some_inj}
-use Rattle.perm_meaning.proofs.OnWords.Related.{vars_length, vars_at}
+use Rattle.perm_meaning.proofs.Leads.{some-inj}
+use Rattle.perm_meaning.proofs.OnWords.Related.{vars-length, vars-at}
 
 -- ---------- values ----------
 pub part-same : (v : Held) → IsPart v v
@@ -38,7 +38,7 @@ part-of-slot (Some (Some v)) None h = absurd h
 part-of-slot (Some (Some v)) (Some w) h = ap (λ z. Some z) h
 
 pub parts-at : (vs ws : List Held) → AreParts vs ws → (x : ℕ) → IsPartAt (slice_get vs x) (slice_get ws x)
-parts-at vs ws h x = part-of-slot (slice_get vs x) (slice_get ws x) (vars_at IsPart vs ws x h)
+parts-at vs ws h x = part-of-slot (slice_get vs x) (slice_get ws x) (vars-at IsPart vs ws x h)
 
 -- one part of another
 pub part-at-then : (a b c : Option Held) → IsPartAt a b → IsPartAt b c → IsPartAt a c
@@ -57,11 +57,11 @@ parts-from-places [] [] e h = tt
 parts-from-places [] (w ∷ ws) e h = absurd (omega (arith, e))
 parts-from-places (v ∷ vs) [] e h = absurd (omega (arith, e))
 parts-from-places (None ∷ vs) (w ∷ ws) e h = (tt, parts-from-places vs ws (omega (arith, e)) (λ x. h (suc x)))
-parts-from-places (Some v ∷ vs) (w ∷ ws) e h = (some_inj (h 0), parts-from-places vs ws (omega (arith, e)) (λ x. h (suc x)))
+parts-from-places (Some v ∷ vs) (w ∷ ws) e h = (some-inj (h 0), parts-from-places vs ws (omega (arith, e)) (λ x. h (suc x)))
 
 -- one part of another
 pub parts-then : (vs ws us : List Held) → AreParts vs ws → AreParts ws us → AreParts vs us
-parts-then vs ws us h k = parts-from-places vs us (vars_length IsPart vs ws h ∙ vars_length IsPart ws us k) (λ x. part-at-then (slice_get vs x) (slice_get ws x) (slice_get us x) (parts-at vs ws h x) (parts-at ws us k x))
+parts-then vs ws us h k = parts-from-places vs us (vars-length IsPart vs ws h ∙ vars-length IsPart ws us k) (λ x. part-at-then (slice_get vs x) (slice_get ws x) (slice_get us x) (parts-at vs ws h x) (parts-at ws us k x))
 
 pub only-length : (i : ℕ) (G : Vars) (vs : List Held) → length (only_at tagged i G vs) ≡ length vs
 only-length i G [] = refl

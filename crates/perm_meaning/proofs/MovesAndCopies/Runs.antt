@@ -10,9 +10,9 @@ use Rattle.perm_meaning.specs.Machine.{Way, final}
 use Rattle.perm_meaning.specs.Custody.{Copies, Moves}
 use Rattle.perm_meaning.specs.Steady.{IsSteady}
 use Rattle.perm_meaning.specs.HoldsFewer.{at_base, in_base, going, leaf, StateHoldsFewer, FinalHoldsFewer}
-use Rattle.perm_meaning.proofs.Leads.{some_inj, none_some, unended}
-use Rattle.perm_meaning.proofs.LeftFirst.Determined.{one_end, determined, over_at_rest, refused_at_rest}
-use Rattle.perm_meaning.proofs.LeftFirst.WholeRun.{ends_as_meaning, fills_as_meaning}
+use Rattle.perm_meaning.proofs.Leads.{some-inj, none-some, unended}
+use Rattle.perm_meaning.proofs.LeftFirst.Determined.{one-end, determined, over-at-rest, refused-at-rest}
+use Rattle.perm_meaning.proofs.LeftFirst.WholeRun.{ends-as-meaning, fills-as-meaning}
 use Rattle.perm_meaning.proofs.MovesAndCopies.Parts.{parts-same}
 use Rattle.perm_meaning.proofs.MovesAndCopies.Ends.{final-fewer}
 use Rattle.perm_meaning.proofs.MovesAndCopies.Events.{runs-fewer}
@@ -44,13 +44,13 @@ module _ (u : UnitCode) (steady : IsSteady u) where
 
         full : outcome u input turns limit ≢ RanFull
         full z =
-            let c = fills_as_meaning u limit input turns r is room z in
-            let d = determined (named Copies u) (memory u) (within limit) n c.0 opening a.0 c.1 a.1 (over_at_rest (named Copies u) (memory u) (within limit) a.0 b.0 b.1) c.3 (refused_at_rest (named Copies u) (memory u) (within limit) c.1 c.2 c.4 c.5) in
-            none_some (sym (unended (named Copies u) (leftmost c.1.task) c.1.task c.2 c.4) ∙ subst (λ (z : State). final z.task ≡ Some b.0) d.1 b.1)
+            let c = fills-as-meaning u limit input turns r is room z in
+            let d = determined (named Copies u) (memory u) (within limit) n c.0 opening a.0 c.1 a.1 (over-at-rest (named Copies u) (memory u) (within limit) a.0 b.0 b.1) c.3 (refused-at-rest (named Copies u) (memory u) (within limit) c.1 c.2 c.4 c.5) in
+            none-some (sym (unended (named Copies u) (leftmost c.1.task) c.1.task c.2 c.4) ∙ subst (λ (z : State). final z.task ≡ Some b.0) d.1 b.1)
 
         same : reported turns b.0 a.0.heap ≡ outcome u input turns limit
         same =
-            let c = ends_as_meaning u limit input turns r is room unstuck full in
-            let d = one_end (named Copies u) (memory u) (within limit) n c.0 opening a.0 c.1 b.0 c.2 a.1 b.1 c.3 c.4 in
-            let g = some_inj (sym b.1 ∙ ap (λ (z : State). final z.task) d.1 ∙ c.4) in
+            let c = ends-as-meaning u limit input turns r is room unstuck full in
+            let d = one-end (named Copies u) (memory u) (within limit) n c.0 opening a.0 c.1 b.0 c.2 a.1 b.1 c.3 c.4 in
+            let g = some-inj (sym b.1 ∙ ap (λ (z : State). final z.task) d.1 ∙ c.4) in
             ap (λ z. reported turns z a.0.heap) g ∙ ap (λ (z : State). reported turns c.2 z.heap) d.1 ∙ c.5

@@ -17,8 +17,8 @@ use Rattle.perm_meaning.specs.Custody.{Moves, while_called, lent_by}
 use Rattle.perm_meaning.specs.Turns.{lent_back}
 use Rattle.perm_meaning.specs.Steady.{AreApart, alters, KeepsLent, IsSteadyCode, IsSteady}
 use Rattle.perm_meaning.specs.HoldsFewer.{IsPart, AreParts, ArePartsOn, AreKept}
-use Rattle.perm_meaning.proofs.Leads.{some_inj}
-use Rattle.perm_meaning.proofs.OnWords.Related.{vars_set}
+use Rattle.perm_meaning.proofs.Leads.{some-inj}
+use Rattle.perm_meaning.proofs.OnWords.Related.{vars-set}
 use Rattle.perm_meaning.proofs.MovesAndCopies.Parts.{part-same, part-at-same}
 use Rattle.perm_meaning.proofs.MovesAndCopies.KeptVariables.{kept-same, kept-set, apart-left, apart-right, on-cleared-one, on-set}
 use Rattle.perm_meaning.proofs.MovesAndCopies.Ends.{parts-clear}
@@ -35,7 +35,7 @@ pub data ActHoldsFewer (H J : Vars) (ms os : List Held) : Act Held Mark → Act 
 -- a variable that is set again as it was
 set-back : (vs : List Held) (y : ℕ) (v w : Held) → slice_get vs y ≡ Some v → slice_set (slice_set vs y w) y v ≡ vs
 set-back [] y v w e = refl
-set-back (z ∷ vs) zero v w e = ap (λ i. i ∷ vs) (sym (some_inj e))
+set-back (z ∷ vs) zero v w e = ap (λ i. i ∷ vs) (sym (some-inj e))
 set-back (z ∷ vs) (suc y) v w e = ap (λ i. z ∷ i) (set-back vs y v w e)
 
 -- what is lent comes back
@@ -140,7 +140,7 @@ module _ (u : UnitCode) (steady : IsSteady u) (H J : Vars) (ms os : List Held) w
 
   -- a variable takes a value
   into-variable-fewer : (l : Own) (x : ℕ) (vs ws : List Held) (v : Held) → AreApart H (just x) → AreApart J (just x) → HoldsMeanwhile vs ws → ActHoldsFewer H J ms os (into_var tagged x vs l v) (into_var tagged x ws l v)
-  into-variable-fewer l x vs ws v a b n = goes (vars_set IsPart vs ws x v v n.part (part-same v)) (kept-set x v a n.kept) (on-set J vs ms x v b n.less)
+  into-variable-fewer l x vs ws v a b n = goes (vars-set IsPart vs ws x v v n.part (part-same v)) (kept-set x v a n.kept) (on-set J vs ms x v b n.less)
 
 -- ---------- the table ----------
 module _ (u : UnitCode) (steady : IsSteady u) (H J : Vars) (l : Own) (os : List Held) (h : AreParts l.vars os) where
@@ -149,7 +149,7 @@ module _ (u : UnitCode) (steady : IsSteady u) (H J : Vars) (l : Own) (os : List 
 
   -- a new object comes into a variable
   made-fewer : (x : ℕ) (v : Held) → AreApart H (just x) → AreApart J (just x) → ActHoldsFewer H J l.vars os (made tagged marks x l v) (made tagged marks x (record l { vars = os }) v)
-  made-fewer x v a b = goes (vars_set IsPart l.vars os x v v h (part-same v)) (kept-set x v a (kept-same H os)) (on-set J l.vars l.vars x v b (λ x j. part-at-same (slice_get l.vars x)))
+  made-fewer x v a b = goes (vars-set IsPart l.vars os x v v h (part-same v)) (kept-set x v a (kept-same H os)) (on-set J l.vars l.vars x v b (λ x j. part-at-same (slice_get l.vars x)))
 
   -- what is written doesn't stand in J
   pub effect-fewer : (i : Instruction) → KeepsLent i → AreApart H (alters i) → AreApart J (plus (consumes i) (assigns i)) → EffectHoldsFewer u steady H J l.vars os (effect tagged u marks i l) (effect tagged u marks i (record l { vars = os }))

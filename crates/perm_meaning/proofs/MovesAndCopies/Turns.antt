@@ -18,7 +18,7 @@ use Rattle.perm_meaning.specs.Effects.{Act, Resumption, Does, Sticks, depth_limi
 use Rattle.perm_meaning.specs.Machine.{Turn, Takes, NoTurn, OpenRecover, Splits}
 use Rattle.perm_meaning.specs.Steady.{AreApart, given_var, GivesOnlyTo, alters, changed, IsSteadyCode, IsSteady}
 use Rattle.perm_meaning.specs.HoldsFewer.{Frame, IsPart, AreParts, IsPartAt, ArePartsOn, AreKept, AreLaidBy, hidden, FitsStacks, at_base, at_block, left_of, LeavesAlone, in_block, in_recover, in_call, DidHoldsFewer, on, splits, ends, dies, at_recover, at_call}
-use Rattle.perm_meaning.proofs.OnWords.Related.{vars_length, vars_set}
+use Rattle.perm_meaning.proofs.OnWords.Related.{vars-length, vars-set}
 use Rattle.perm_meaning.proofs.MovesAndCopies.Parts.{part-same, parts-same, only-parts, parts-at, parts-from-places, only-length, either-length, either-at}
 use Rattle.perm_meaning.proofs.MovesAndCopies.KeptVariables.{kept-same, kept-set, kept-into, kept-cleared, apart-left, apart-right, apart-plus, kept-right, on-cleared-one, on-set, on-into, on-then, on-block-end, on-fewer, apart-without}
 use Rattle.perm_meaning.proofs.MovesAndCopies.Stacks.{stacks-other-variables, stacks-other-code, changes-none-hidden, side-other-variables, side-other-code, side-variables, side-writes-none}
@@ -54,14 +54,14 @@ module _ (K : Vars) (vp : List Held) (l : Own) (ws : List Held) (st st' : List F
 -- a variable takes a result
 result-into-parts : (into : Option ℕ) (vs us : List Held) (v : Held) → AreParts vs us → AreParts (assign_into vs into v) (assign_into us into v)
 result-into-parts None vs us v q = q
-result-into-parts (Some x) vs us v q = vars_set IsPart vs us x v v q (part-same v)
+result-into-parts (Some x) vs us v q = vars-set IsPart vs us x v v q (part-same v)
 
 -- the hidden variables are back
 recovered-parts : (hides : List ℕ) (saved vs us : List Held) → AreLaidBy (those hides) saved us → AreParts vs us → AreParts (from_either (those hides) saved vs) us
-recovered-parts hides saved vs us q r = parts-from-places _ us (either-length 0 (those hides) saved vs same ∙ vars_length IsPart vs us r) each
+recovered-parts hides saved vs us q r = parts-from-places _ us (either-length 0 (those hides) saved vs same ∙ vars-length IsPart vs us r) each
   where
     same : length saved ≡ length vs
-    same = q.long ∙ sym (vars_length IsPart vs us r)
+    same = q.long ∙ sym (vars-length IsPart vs us r)
 
     each : (x : ℕ) → IsPartAt (slice_get (from_either (those hides) saved vs) x) (slice_get us x)
     each x = subst (λ z. IsPartAt z (slice_get us x)) (sym (either-at 0 (those hides) saved vs x x (omega arith) same)) (which (those hides x) refl)
@@ -126,9 +126,9 @@ module _ (u : UnitCode) (steady : IsSteady u) {K : Vars} {vp : List Held} (l : O
       subst (λ z. TurnHoldsFewer K vp l ws (OpenRecover own hides saved rest ∷ sv) (OpenRecover own hides saved' rest ∷ sv') (given_back tagged Moves (Gives v) w x (OpenRecover own hides saved rest ∷ sv) l) (given_back tagged Copies z w x (OpenRecover own hides saved' rest ∷ sv') (record l { vars = ws }))) (sym k) (
         refl,
         λ j. on
-            (vars_set IsPart (from_either (those hides) saved vs) us x v v (recovered-parts hides saved vs us there parts) (part-same v))
+            (vars-set IsPart (from_either (those hides) saved vs) us x v v (recovered-parts hides saved vs us there parts) (part-same v))
             s (stacks-other-variables b (kept-set x v g (kept-right (those hides) (hidden sv') kept)))
-            (side-other-variables i (on-set (left_of K sv) (from_either (those hides) saved vs) vp x v g' (either-on (those hides) (left_of K sv) saved vs vp (there.long ∙ sym (vars_length IsPart vs us parts)) (side-variables i) (on-block-end (left_of K sv) own (clear tagged l.vars w) vp (on-cleared-one (minus (left_of K sv) (those own)) l.vars vp w p))))),
+            (side-other-variables i (on-set (left_of K sv) (from_either (those hides) saved vs) vp x v g' (either-on (those hides) (left_of K sv) saved vs vp (there.long ∙ sym (vars-length IsPart vs us parts)) (side-variables i) (on-block-end (left_of K sv) own (clear tagged l.vars w) vp (on-cleared-one (minus (left_of K sv) (those own)) l.vars vp w p))))),
       )
     where
       vs : List Held
@@ -202,7 +202,7 @@ module _ (u : UnitCode) (steady : IsSteady u) {K : Vars} {vp : List Held} (l : O
     refl,
     λ v. on (only-parts 0 (λ x. not (those hides x)) l.vars ws h) s.1
         (at_recover both (apart-left (given_var body) (plus (plus (changed body) (those own)) (changed rest)) (changes-none-hidden b))
-        (record { long = only-length 0 (those hides) l.vars ∙ vars_length IsPart l.vars ws h; part = λ x e. parts-at (only tagged (those hides) l.vars) ws (only-parts 0 (those hides) l.vars ws h) x }) s.2
+        (record { long = only-length 0 (those hides) l.vars ∙ vars-length IsPart l.vars ws h; part = λ x e. parts-at (only tagged (those hides) l.vars) ws (only-parts 0 (those hides) l.vars ws h) x }) s.2
         (stacks-other-code b (λ x e. (or_parts (plus (changed body) (those own) x) (changed rest x) (or_parts (given_var body x) (plus (plus (changed body) (those own)) (changed rest) x) e).1).1) (λ x e. e)))
         (in_recover (apart-without (left_of K st) (written body) own (apart-left (minus (written body) (those own)) (written rest) (apart-right (just x) (plus (minus (written body) (those own)) (written rest)) (side-writes-none i))))
         (gives-apart (left_of K st) x body s.0.gives (apart-left (just x) (plus (minus (written body) (those own)) (written rest)) (side-writes-none i)))

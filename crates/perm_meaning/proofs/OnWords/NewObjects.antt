@@ -17,10 +17,10 @@ use Rattle.perm_meaning.specs.WordHeap as worded
 use Rattle.perm_meaning.specs.WordHeap.{Cells}
 use Rattle.perm_meaning.specs.Steps.{Answer, Found, Refused}
 use Rattle.perm_meaning.specs.Shows.{Bases, Grows, IsWordOf, IsAskOf, IsWithin, HeapShown}
-use Rattle.perm_meaning.proofs.Leads.{some_inj, none_some}
-use Rattle.perm_meaning.proofs.SameName.{name_true, name_itself}
+use Rattle.perm_meaning.proofs.Leads.{some-inj, none-some}
+use Rattle.perm_meaning.proofs.SameName.{name-true, name-itself}
 use Rattle.perm_meaning.proofs.OnWords.Simulate.{AnsweredR}
-use Rattle.perm_meaning.proofs.OnWords.Heaps.{word_grows, stored}
+use Rattle.perm_meaning.proofs.OnWords.Heaps.{word-grows, stored}
 
 -- ---------- first values ----------
 -- what a field starts as is the word 0
@@ -30,34 +30,34 @@ IsZero (Truth b) = b ≡ false
 IsZero Null = Unit {0}
 IsZero (Reference r len) = ⊥
 
-zero_word : (b : Bases) (v : Value Name) → IsZero v → IsWordOf b (Some v) 0
-zero_word b (Number n) h = (h, omega arith)
-zero_word b (Truth false) h = refl
-zero_word b (Truth true) h = absurd (cc)
-zero_word b Null h = refl
-zero_word b (Reference r len) h = absurd h
+zero-word : (b : Bases) (v : Value Name) → IsZero v → IsWordOf b (Some v) 0
+zero-word b (Number n) h = (h, omega arith)
+zero-word b (Truth false) h = refl
+zero-word b (Truth true) h = absurd (cc)
+zero-word b Null h = refl
+zero-word b (Reference r len) h = absurd h
 
-type_zero : (t : Ty) → IsZero (zero_of t)
-type_zero Long = refl
-type_zero Boolean = refl
-type_zero (Ref p k) = tt
+type-zero : (t : Ty) → IsZero (zero_of t)
+type-zero Long = refl
+type-zero Boolean = refl
+type-zero (Ref p k) = tt
 
-types_zero : (ts : List Ty) (f : ℕ) (v : Value Name) → slice_get (map zero_of ts) f ≡ Some v → IsZero v
-types_zero [] f v e = none_some e
-types_zero (t ∷ ts) zero v e = subst IsZero (some_inj e) (type_zero t)
-types_zero (t ∷ ts) (suc f) v e = types_zero ts f v e
+types-zero : (ts : List Ty) (f : ℕ) (v : Value Name) → slice_get (map zero_of ts) f ≡ Some v → IsZero v
+types-zero [] f v e = none-some e
+types-zero (t ∷ ts) zero v e = subst IsZero (some-inj e) (type-zero t)
+types-zero (t ∷ ts) (suc f) v e = types-zero ts f v e
 
 abbrev zero_number : Value Name
 zero_number = Number (pos 0)
 
-numbers_zero : (n f : ℕ) (v : Value Name) → slice_get (replicate n zero_number) f ≡ Some v → IsZero v
-numbers_zero zero f v e = none_some e
-numbers_zero (suc n) zero v e = subst IsZero (some_inj e) refl
-numbers_zero (suc n) (suc f) v e = numbers_zero n f v e
+numbers-zero : (n f : ℕ) (v : Value Name) → slice_get (replicate n zero_number) f ≡ Some v → IsZero v
+numbers-zero zero f v e = none-some e
+numbers-zero (suc n) zero v e = subst IsZero (some-inj e) refl
+numbers-zero (suc n) (suc f) v e = numbers-zero n f v e
 
-first_zero : (u : UnitCode) (shape : Shape) (n f : ℕ) (v : Value Name) → slice_get (first_values u shape n) f ≡ Some v → IsZero v
-first_zero u Array n f v e = numbers_zero n f v e
-first_zero u (Class k) n f v e = types_zero (field_types u k) f v e
+first-zero : (u : UnitCode) (shape : Shape) (n f : ℕ) (v : Value Name) → slice_get (first_values u shape n) f ≡ Some v → IsZero v
+first-zero u Array n f v e = numbers-zero n f v e
+first-zero u (Class k) n f v e = types-zero (field_types u k) f v e
 
 -- ---------- a making ----------
 -- a base of its own, or the one that was there
@@ -74,12 +74,12 @@ module _ (u : UnitCode) (b : Bases) (h : Heap) (c : Cells) (s : HeapShown b h c)
   object = new_object u shape n
 
   -- the new name had no base
-  no_base : (k : ℕ) → b r ≡ Some k → ⊥
-  no_base k p = let x = s.made r k p in none_some (sym fresh ∙ x.1)
+  no-base : (k : ℕ) → b r ≡ Some k → ⊥
+  no-base k p = let x = s.made r k p in none-some (sym fresh ∙ x.1)
 
   -- each object keeps its base
   grown : (m : Name) (k : ℕ) (t : Bool) → same_name m r ≡ t → b m ≡ Some k → base_or t c.given (b m) ≡ Some k
-  grown m k true d p = absurd (no_base k (ap b (sym (name_true m r d)) ∙ p))
+  grown m k true d p = absurd (no-base k (ap b (sym (name-true m r d)) ∙ p))
   grown m k false d p = p
 
   pub grows : Grows b based
@@ -92,61 +92,61 @@ module _ (u : UnitCode) (b : Bases) (h : Heap) (c : Cells) (s : HeapShown b h c)
 
   -- an object is the new one or an older one
   place : (m : Name) (k : ℕ) (o : Object Name) (t : Bool) → same_name m r ≡ t → base_or t c.given (b m) ≡ Some k → this_or t object (h.objects m) ≡ Some o → ((m ≡ r) × (c.given ≡ k) × (object ≡ o)) ⊎ ((b m ≡ Some k) × (h.objects m ≡ Some o))
-  place m k o true d p e = inl (name_true m r d, some_inj p, some_inj e)
+  place m k o true d p e = inl (name-true m r d, some-inj p, some-inj e)
   place m k o false d p e = inr (p, e)
 
   placed : (m : Name) (k : ℕ) (o : Object Name) → based m ≡ Some k → add same_name h.objects r object m ≡ Some o → ((m ≡ r) × (c.given ≡ k) × (object ≡ o)) ⊎ ((b m ≡ Some k) × (h.objects m ≡ Some o))
   placed m k o p e = place m k o (same_name m r) refl p e
 
-  based_new : (m : Name) (o : Object Name) (t : Bool) → this_or t object (h.objects m) ≡ Some o → (k : ℕ) × (base_or t c.given (b m) ≡ Some k)
-  based_new m o true e = (c.given, refl)
-  based_new m o false e = s.based m o e
+  based-new : (m : Name) (o : Object Name) (t : Bool) → this_or t object (h.objects m) ≡ Some o → (k : ℕ) × (base_or t c.given (b m) ≡ Some k)
+  based-new m o true e = (c.given, refl)
+  based-new m o false e = s.based m o e
 
-  made_new : (m : Name) (k : ℕ) (t : Bool) → base_or t c.given (b m) ≡ Some k → (o : Object Name) × (this_or t object (h.objects m) ≡ Some o)
-  made_new m k true p = (object, refl)
-  made_new m k false p = s.made m k p
+  made-new : (m : Name) (k : ℕ) (t : Bool) → base_or t c.given (b m) ≡ Some k → (o : Object Name) × (this_or t object (h.objects m) ≡ Some o)
+  made-new m k true p = (object, refl)
+  made-new m k false p = s.made m k p
 
   -- no old object lies past the words given
   past : (i : ℕ) → c.given ≤ i → c.word i ≡ 0
   past i le = s.unused i (λ m k o p e x. (let y = s.below m k o p e in absurd (omega arith)))
 
-  field_new : (m : Name) (k f : ℕ) (v : Value Name) (t : Bool) → base_or t c.given (b m) ≡ Some k → value_in (this_or t object (h.objects m)) f ≡ Some v → IsWordOf based (Some v) (c.word (k + f))
-  field_new m k f v true p e = let z = some_inj p in subst (λ y. IsWordOf based (Some v) y) (sym (past (k + f) (omega arith))) (zero_word based v (first_zero u shape n f v e))
-  field_new m k f v false p e = word_grows b based grows (Some v) (c.word (k + f)) (s.fields m k f v p e)
+  field-new : (m : Name) (k f : ℕ) (v : Value Name) (t : Bool) → base_or t c.given (b m) ≡ Some k → value_in (this_or t object (h.objects m)) f ≡ Some v → IsWordOf based (Some v) (c.word (k + f))
+  field-new m k f v true p e = let z = some-inj p in subst (λ y. IsWordOf based (Some v) y) (sym (past (k + f) (omega arith))) (zero-word based v (first-zero u shape n f v e))
+  field-new m k f v false p e = word-grows b based grows (Some v) (c.word (k + f)) (s.fields m k f v p e)
 
-  below_new : (m : Name) (k : ℕ) (o : Object Name) → ((m ≡ r) × (c.given ≡ k) × (object ≡ o)) ⊎ ((b m ≡ Some k) × (h.objects m ≡ Some o)) → k + object_size o ≤ c.given + size n
-  below_new m k o (inl z) =
+  below-new : (m : Name) (k : ℕ) (o : Object Name) → ((m ≡ r) × (c.given ≡ k) × (object ≡ o)) ⊎ ((b m ≡ Some k) × (h.objects m ≡ Some o)) → k + object_size o ≤ c.given + size n
+  below-new m k o (inl z) =
       let len : length o.values ≡ n = ap (λ (j : Object Name). length j.values) (sym z.2) ∙ long in
       let sz : max 1 (length o.values) ≡ max 1 n = ap (λ j. max 1 j) len in
       let g = z.1 in omega (arith, g, sz)
-  below_new m k o (inr z) = let y = s.below m k o z.0 z.1 in omega arith
+  below-new m k o (inr z) = let y = s.below m k o z.0 z.1 in omega arith
 
-  apart_new : (m m' : Name) (k l i : ℕ) (o q : Object Name) → ((m ≡ r) × (c.given ≡ k) × (object ≡ o)) ⊎ ((b m ≡ Some k) × (h.objects m ≡ Some o)) → ((m' ≡ r) × (c.given ≡ l) × (object ≡ q)) ⊎ ((b m' ≡ Some l) × (h.objects m' ≡ Some q))
+  apart-new : (m m' : Name) (k l i : ℕ) (o q : Object Name) → ((m ≡ r) × (c.given ≡ k) × (object ≡ o)) ⊎ ((b m ≡ Some k) × (h.objects m ≡ Some o)) → ((m' ≡ r) × (c.given ≡ l) × (object ≡ q)) ⊎ ((b m' ≡ Some l) × (h.objects m' ≡ Some q))
       → IsWithin i k o → IsWithin i l q → m ≡ m'
-  apart_new m m' k l i o q (inl z) (inl y) x w = z.0 ∙ sym y.0
-  apart_new m m' k l i o q (inl z) (inr y) x w = let g = z.1 in let e = s.below m' l q y.0 y.1 in absurd (omega (arith, g, e, x, w))
-  apart_new m m' k l i o q (inr z) (inl y) x w = let g = y.1 in let e = s.below m k o z.0 z.1 in absurd (omega (arith, g, e, x, w))
-  apart_new m m' k l i o q (inr z) (inr y) x w = s.apart m m' k l i o q z.0 y.0 z.1 y.1 x w
+  apart-new m m' k l i o q (inl z) (inl y) x w = z.0 ∙ sym y.0
+  apart-new m m' k l i o q (inl z) (inr y) x w = let g = z.1 in let e = s.below m' l q y.0 y.1 in absurd (omega (arith, g, e, x, w))
+  apart-new m m' k l i o q (inr z) (inl y) x w = let g = y.1 in let e = s.below m k o z.0 z.1 in absurd (omega (arith, g, e, x, w))
+  apart-new m m' k l i o q (inr z) (inr y) x w = s.apart m m' k l i o q z.0 y.0 z.1 y.1 x w
 
   older : (m : Name) (o : Object Name) (t : Bool) → same_name m r ≡ t → h.objects m ≡ Some o → this_or t object (h.objects m) ≡ Some o
-  older m o true d e = none_some (sym fresh ∙ ap h.objects (sym (name_true m r d)) ∙ e)
+  older m o true d e = none-some (sym fresh ∙ ap h.objects (sym (name-true m r d)) ∙ e)
   older m o false d e = e
 
-  filler_new : (m : Name) (k : ℕ) (o : Object Name) → ((m ≡ r) × (c.given ≡ k) × (object ≡ o)) ⊎ ((b m ≡ Some k) × (h.objects m ≡ Some o)) → length o.values ≡ 0 → c.word k ≡ 0
-  filler_new m k o (inl z) e = let g = z.1 in past k (omega arith)
-  filler_new m k o (inr z) e = s.filler m k o z.0 z.1 e
+  filler-new : (m : Name) (k : ℕ) (o : Object Name) → ((m ≡ r) × (c.given ≡ k) × (object ≡ o)) ⊎ ((b m ≡ Some k) × (h.objects m ≡ Some o)) → length o.values ≡ 0 → c.word k ≡ 0
+  filler-new m k o (inl z) e = let g = z.1 in past k (omega arith)
+  filler-new m k o (inr z) e = s.filler m k o z.0 z.1 e
 
   pub made : HeapShown based (record { objects = add same_name h.objects r object; given = h.given + size n }) (record { word = c.word; given = c.given + size n })
   made =
       record {
         given = ap (λ z. z + size n) s.given;
-        based = λ m o e. based_new m o (same_name m r) e;
-        made = λ m k p. made_new m k (same_name m r) p;
-        fields = λ m k f v p e. field_new m k f v (same_name m r) p e;
-        below = λ m k o p e. below_new m k o (placed m k o p e);
-        apart = λ m m' k l i o q p p' e e' x w. apart_new m m' k l i o q (placed m k o p e) (placed m' l q p' e') x w;
+        based = λ m o e. based-new m o (same_name m r) e;
+        made = λ m k p. made-new m k (same_name m r) p;
+        fields = λ m k f v p e. field-new m k f v (same_name m r) p e;
+        below = λ m k o p e. below-new m k o (placed m k o p e);
+        apart = λ m m' k l i o q p p' e e' x w. apart-new m m' k l i o q (placed m k o p e) (placed m' l q p' e') x w;
         unused = λ i d. s.unused i (λ m k o p e x. d m k o (grows m k p) (older m o (same_name m r) refl e) x);
-        filler = λ m k o p e q. filler_new m k o (placed m k o p e) q;
+        filler = λ m k o p e q. filler-new m k o (placed m k o p e) q;
       }
 
 -- a refused one
@@ -198,9 +198,9 @@ module _ (u : UnitCode) (fits : ℕ → Bool) (small : IsSmall fits) where
       subst (λ z. Answers b (Store r f (Some v)) (Store k z w) h c (named.found_nothing (Some old)) (Found 0)) e (b, stay b, tt, stored b h c s r k f w v old a i q)
 
   -- an allocation that has room
-  length_small : (shape : Shape) (n g : ℕ) → g + size n < 2 ^ 32 → length_of shape n < 2 ^ 32
-  length_small Array n g h = omega arith
-  length_small (Class k) n g h = omega arith
+  length-small : (shape : Shape) (n g : ℕ) → g + size n < 2 ^ 32 → length_of shape n < 2 ^ 32
+  length-small Array n g h = omega arith
+  length-small (Class k) n g h = omega arith
 
   make : (b : Bases) (by : Mark) (shape : Shape) (n : ℕ) (h : Heap) (c : Cells) → HeapShown b h c → h.objects (next_name by) ≡ None → length (first_values {R = Name} u shape n) ≡ n
       → Answers b (Make by shape n) (Make tt shape n) h c (named.find fits (Make by shape n) h) (worded.find fits (Make tt shape n) c)
@@ -219,7 +219,7 @@ module _ (u : UnitCode) (fits : ℕ → Bool) (small : IsSmall fits) where
           let full : fits (size n) ≡ true = small.down c.given (size n) e' in (
             based u b h c s (next_name by) shape n new len,
             grows u b h c s (next_name by) shape n new len,
-            (c.given, itself u b h c s (next_name by) shape n new len (same_name (next_name by) (next_name by)) (name_itself (next_name by)), omega arith, length_small shape n c.given lt, refl),
+            (c.given, itself u b h c s (next_name by) shape n new len (same_name (next_name by) (next_name by)) (name-itself (next_name by)), omega arith, length-small shape n c.given lt, refl),
             subst (λ z. HeapShown (based u b h c s (next_name by) shape n new len) (allocated z (fits (size n)) u by shape n h) (record c { given = cond (fits (size n)) (c.given + size n) c.given })) (sym e)
                 (subst (λ z. HeapShown (based u b h c s (next_name by) shape n new len) (allocated true z u by shape n h) (record c { given = cond z (c.given + size n) c.given })) (sym full)
                 (made u b h c s (next_name by) shape n new len)),

@@ -27,8 +27,8 @@ use Rattle.perm_meaning.specs.Objects.{Objects}
 use Rattle.perm_meaning.specs.Expressions.{tagged, eval, clear}
 use Rattle.perm_meaning.specs.Machine.{Way}
 use Rattle.perm_meaning.specs.NamedHeap.{Held}
-use Rattle.perm_meaning.proofs.Leads.{some_inj}
-use Rattle.perm_meaning.proofs.SameName.{together, eq_true, eq_itself}
+use Rattle.perm_meaning.proofs.Leads.{some-inj}
+use Rattle.perm_meaning.proofs.SameName.{together, eq-true, eq-itself}
 use Rattle.perm_core.specs.Regions.{Zone, Region, OwnOf, OfVariable, Labels, same_way, same_region, is_absent, var_may_lead}
 use Rattle.perm_core.specs.Picture.{value_fits, valued}
 use Rattle.perm_core.specs.NextPicture.{Moves, Renamings, moved, goal_of, consumed_moves, arguments_moves}
@@ -89,7 +89,7 @@ module _ (w : Way) (k : ℕ) where
     consumed-hands (Consumed y) to there away = by_test (has_isolated (type_of c y))
       where
         by_test : (t : Bool) → Hands w k (argument_consumes (Consumed y)) (cond t (Moves (OfVariable w k y) to ∷ []) [])
-        by_test true = hands-one (argument_consumes (Consumed y)) y to (eq_itself y) there away
+        by_test true = hands-one (argument_consumes (Consumed y)) y to (eq-itself y) there away
         by_test false = hands-none _
 
     pub arguments-hands : (x : ℕ) (args : List Argument) (ts : List Ty) (z : Zone) → Hands w k (arguments_consume args) (arguments_moves c w k x args ts z)
@@ -159,13 +159,13 @@ module _ (u : UnitCode) (h : Objects Name) (c : Context) (w : Way) (k : ℕ) (zc
       at_home : (n : ℕ) → (zc ≡ zi) ⊎ (is_harmless_ty (type_of c n) ≡ true) → (m : ℕ) (p : Perm) (s : Shape) → nat_eq m n ≡ true → type_of c m ≡ Some (Ref p s) → (p ≡ Readable → zc ≡ zi) × (p ≡ Writable → zc ≡ zi)
       at_home n (inl e) m p s q is = (λ r. e, λ r. e)
       at_home n (inr e) m p s q is =
-          let f = harmless-free p s (sym (ap is_harmless_ty (ap (type_of c) (sym (eq_true m n q)) ∙ is)) ∙ e) in
+          let f = harmless-free p s (sym (ap is_harmless_ty (ap (type_of c) (sym (eq-true m n q)) ∙ is)) ∙ e) in
           (λ r. absurd (f.0 r), λ r. absurd (f.1 r))
 
       consumed-home : (n : ℕ) → (zc ≡ zi) ⊎ (is_harmless_consumed (type_of c n) ≡ true) → (m : ℕ) (p : Perm) (s : Shape) → nat_eq m n ≡ true → type_of c m ≡ Some (Ref p s) → (p ≡ Readable → zc ≡ zi) × (p ≡ Writable → zc ≡ zi)
       consumed-home n (inl e) m p s q is = (λ r. e, λ r. e)
       consumed-home n (inr e) m p s q is =
-          let f = harmless-consumed p s (sym (ap is_harmless_consumed (ap (type_of c) (sym (eq_true m n q)) ∙ is)) ∙ e) in
+          let f = harmless-consumed p s (sym (ap is_harmless_consumed (ap (type_of c) (sym (eq-true m n q)) ∙ is)) ∙ e) in
           (λ r. absurd (f.0 r), λ r. absurd (f.1 r))
 
       go : (a : Argument) → Gives_one vs a v us → any_in_argument (dead (valued vs)) a ≡ false → argument_misfits c a (Some t) ≡ false → argument_weak c a (Some t) ≡ false → argument_needs c a ≡ false → MayCome a → Result a
@@ -252,8 +252,8 @@ module _ (u : UnitCode) (h : Objects Name) (c : Context) (w : Way) (k : ℕ) (zc
       each : (i : ℕ) (s : Ty) (d : Value Name) → slice_get (t ∷ ts) i ≡ Some s → slice_get (v ∷ found) i ≡ Some (Some d) → (n : ℕ) → n ≡ x + i → Fits n s d
       each zero s d is has n q =
           let at : x ≡ n = omega (arith, q) in
-          let same : b ≡ d = some_inj (sym value ∙ some_inj has) in
-          subst (λ (n : ℕ). Fits n s d) at (subst (λ (s : Ty). Fits x s d) (some_inj is) (subst (λ (d : Value Name). Fits x t d) same new))
+          let same : b ≡ d = some-inj (sym value ∙ some-inj has) in
+          subst (λ (n : ℕ). Fits n s d) at (subst (λ (s : Ty). Fits x s d) (some-inj is) (subst (λ (d : Value Name). Fits x t d) same new))
       each (suc i) s d is has n q =
           subst (λ (ls : Labels). value_fits h (λ p m. var_may_lead p (OfVariable w (suc k) n) zi (ls m)) s d ≡ true) (sym split) (came.each i s d is has n (omega (arith, q)))
 

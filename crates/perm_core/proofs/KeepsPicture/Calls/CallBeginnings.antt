@@ -26,8 +26,8 @@ use Rattle.perm_meaning.specs.Objects.{Objects}
 use Rattle.perm_meaning.specs.Expressions.{tagged, held, clear}
 use Rattle.perm_meaning.specs.Machine.{Way}
 use Rattle.perm_meaning.specs.NamedHeap.{Held}
-use Rattle.perm_meaning.proofs.Leads.{some_inj, none_some}
-use Rattle.perm_meaning.proofs.SameName.{eq_true, eq_itself}
+use Rattle.perm_meaning.proofs.Leads.{some-inj, none-some}
+use Rattle.perm_meaning.proofs.SameName.{eq-true, eq-itself}
 use Rattle.perm_core.specs.Regions.{Zone, Region, OwnOf, OfVariable, Labels, same_way, same_region, var_may_lead}
 use Rattle.perm_core.specs.Picture.{value_fits, variables_fit, has_value, valued}
 use Rattle.perm_core.specs.NextPicture.{Moves, moved, arguments_moves}
@@ -44,7 +44,7 @@ unlike : (x y : ℕ) → (x ≡ y → ⊥) → nat_eq x y ≡ false
 unlike x y n = grind (arith, nat_tests)
 
 none-there : (n i : ℕ) (d : Value Name) → slice_get (replicate n None) i ≡ Some (Some d) → ⊥
-none-there zero i d e = none_some e
+none-there zero i d e = none-some e
 none-there (suc n) zero d e = let no : ⊥ = cc e in no
 none-there (suc n) (suc i) d e = none-there n i d e
 
@@ -91,13 +91,13 @@ module _ (u : UnitCode) (h : Objects Name) (c : Context) (w : Way) (k : ℕ) (zc
 
       each : (x : ℕ) (t : Ty) (d : Value Name) → slice_get (Ref q (Class class) ∷ (params ++ locals)) x ≡ Some t → slice_get (this ∷ (found ++ replicate n None)) x ≡ Some (Some d)
           → value_fits h (λ p m. var_may_lead p (OfVariable w (suc k) x) zi (after m)) t d ≡ true
-      each zero t d is has = subst (λ (s : Ty). value_fits h (λ p m. var_may_lead p (OfVariable w (suc k) 0) zi (after m)) s d ≡ true) (some_inj is) (begun.this_fits d (some_inj has))
+      each zero t d is has = subst (λ (s : Ty). value_fits h (λ p m. var_may_lead p (OfVariable w (suc k) 0) zi (after m)) s d ≡ true) (some-inj is) (begun.this_fits d (some-inj has))
       each (suc x) t d is has = let o = first-place params locals found n x t d begun.lengths is has in begun.each x t d o.0 o.1
 
   module _ (labels : Labels) (p : Perm) (y : ℕ) (args : List Argument) (G : Vars) (vs : List Held) (fit : AllFit u labels h zc w k c.vars vs) (is : type_of c y ≡ Some (Ref p (Class class))) (less : IsWithin G (valued vs))
       (shapes : arguments_misfit c args params ≡ false) (strong : arguments_weak c args params ≡ false) (needless : list_any (argument_needs c) args ≡ false) where
     same-class : (not (nat_eq class class)) ≡ false
-    same-class = ap (λ t. not t) (eq_itself class)
+    same-class = ap (λ t. not t) (eq-itself class)
 
     enough : not (is_at_most p q) ≡ false → (nat_eq class class && not (is_at_most p q)) ≡ false
     enough e = ap (λ t. nat_eq class class && t) e ∙ and-false (nat_eq class class)
@@ -123,7 +123,7 @@ module _ (u : UnitCode) (h : Objects Name) (c : Context) (w : Way) (k : ℕ) (zc
     pub kept-begins : (this : Held) (a : Value Name) (found ws : List Held) → this ≡ Some a → Evaluates args vs found ws → slice_get ws y ≡ Some this → arguments_gone args G ≡ false → not (is_at_most p q) ≡ false → has_isolated (Some (Ref p (Class class))) ≡ false
         → MayAllCome u h c w k zc zi args → (zc ≡ zi) ⊎ (is_harmless_ty (Some (Ref p (Class class))) ≡ true) → Begun (λ n. moved (arguments_moves c w k 1 args params zi) (labels n)) this found ws
     kept-begins this a found ws value all here alive at_most free may home = record {
-      this_fits = λ d e. (let same : comes.0 ≡ d = some_inj (sym comes.1.0 ∙ e) in subst (λ (d : Value Name). value_fits h (λ p n. var_may_lead p (OfVariable w (suc k) 0) zi (after n)) (Ref q (Class class)) d ≡ true) same comes.1.1);
+      this_fits = λ d e. (let same : comes.0 ≡ d = some-inj (sym comes.1.0 ∙ e) in subst (λ (d : Value Name). value_fits h (λ p n. var_may_lead p (OfVariable w (suc k) 0) zi (after n)) (Ref q (Class class)) d ≡ true) same comes.1.1);
       lengths = came.lengths;
       each = λ i t d at has. came.each i t d at has (suc i) (omega arith);
       kept = came.left;
@@ -154,7 +154,7 @@ module _ (u : UnitCode) (h : Objects Name) (c : Context) (w : Way) (k : ℕ) (zc
     lend r = moved (Moves (OfVariable w k y) (OwnOf zi) ∷ []) r
 
     lend-hands : Hands w k (just y) (Moves (OfVariable w k y) (OwnOf zi) ∷ [])
-    lend-hands = hands-one w k (just y) y (OwnOf zi) (eq_itself y) refl (λ x. refl)
+    lend-hands = hands-one w k (just y) y (OwnOf zi) (eq-itself y) refl (λ x. refl)
 
     beside : (x n : ℕ) → nat_eq x n ≡ false → same_region (OfVariable w k x) (OfVariable w k n) ≡ false
     beside x n e = ap (λ t. same_way w w && (nat_eq k k && t)) e ∙ (ap (λ t. same_way w w && t) (and-false (nat_eq k k)) ∙ and-false (same_way w w))
@@ -171,7 +171,7 @@ module _ (u : UnitCode) (h : Objects Name) (c : Context) (w : Way) (k : ℕ) (zc
 
         apart : (n : ℕ) → arguments_consume args n ≡ true → (t : Bool) → nat_eq y n ≡ t → same_region (OfVariable w k y) (OfVariable w k n) ≡ false
         apart n e false q = beside y n q
-        apart n e true q = absurd (let no : true ≡ false = sym e ∙ (ap (arguments_consume args) (sym (eq_true y n q)) ∙ free) in let w : ⊥ = cc no in w)
+        apart n e true q = absurd (let no : true ≡ false = sym e ∙ (ap (arguments_consume args) (sym (eq-true y n q)) ∙ free) in let w : ⊥ = cc no in w)
 
         mine : go (OfVariable w k y) ≡ OfVariable w k y
         mine = hands.other (OfVariable w k y) (λ n e. apart n e (nat_eq y n) refl)
@@ -214,12 +214,12 @@ module _ (u : UnitCode) (h : Objects Name) (c : Context) (w : Way) (k : ℕ) (zc
         handed n e = ap (λ t. cond t (OwnOf zi) (after n)) (subst (λ (p : Perm). var_may_lead p (OfVariable w k y) zc (after n) ≡ true) isolated e)
 
         borrowed : value_fits h (λ p n. same_region (lent n) (OwnOf zi)) (Ref p (Class class)) a ≡ true
-        borrowed = value-into h (λ p n. var_may_lead p (OfVariable w k y) zc (after n)) (λ p n. same_region (lent n) (OwnOf zi)) p p (Class class) (Class class) a (eq_itself class) (λ n e. is-same (handed n e)) before
+        borrowed = value-into h (λ p n. var_may_lead p (OfVariable w k y) zc (after n)) (λ p n. same_region (lent n) (OwnOf zi)) p p (Class class) (Class class) a (eq-itself class) (λ n e. is-same (handed n e)) before
 
         this_fits : (d : Value Name) → this ≡ Some d → value_fits h (λ p n. var_may_lead p (OfVariable w (suc k) 0) zi (lent n)) (Ref q (Class class)) d ≡ true
         this_fits d e =
-            subst (λ (d : Value Name). value_fits h (λ p n. var_may_lead p (OfVariable w (suc k) 0) zi (lent n)) (Ref q (Class class)) d ≡ true) (some_inj (sym value ∙ e))
-            (value-into h (λ p n. var_may_lead p (OfVariable w k y) zc (after n)) (λ p n. var_may_lead p (OfVariable w (suc k) 0) zi (lent n)) p q (Class class) (Class class) a (eq_itself class)
+            subst (λ (d : Value Name). value_fits h (λ p n. var_may_lead p (OfVariable w (suc k) 0) zi (lent n)) (Ref q (Class class)) d ≡ true) (some-inj (sym value ∙ e))
+            (value-into h (λ p n. var_may_lead p (OfVariable w k y) zc (after n)) (λ p n. var_may_lead p (OfVariable w (suc k) 0) zi (lent n)) p q (Class class) (Class class) a (eq-itself class)
             (λ n e. ap (λ r. var_may_lead q (OfVariable w (suc k) 0) zi r) (handed n e) ∙ unkept-leads q unkept) before)
 
         above : (x : ℕ) → lend (OfVariable w (suc k) x) ≡ OfVariable w (suc k) x

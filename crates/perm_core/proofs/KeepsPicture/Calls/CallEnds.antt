@@ -21,8 +21,8 @@ use Rattle.perm_meaning.specs.Names.{Name}
 use Rattle.perm_meaning.specs.Objects.{Objects}
 use Rattle.perm_meaning.specs.Machine.{Frame, OpenBlock, OpenRecover, OpenCall, Way}
 use Rattle.perm_meaning.specs.NamedHeap.{Held}
-use Rattle.perm_meaning.proofs.SameName.{together, eq_true, eq_itself}
-use Rattle.perm_meaning.proofs.Leads.{some_inj, none_some}
+use Rattle.perm_meaning.proofs.SameName.{together, eq-true, eq-itself}
+use Rattle.perm_meaning.proofs.Leads.{some-inj, none-some}
 use Rattle.perm_core.specs.Regions.{Zone, Base, Region, Frozen, OwnOf, OfVariable, Loose, Labels, same_way, is_frozen, is_absent, may_read, var_may_lead, begins_zone, calls, zones, top_zone}
 use Rattle.perm_core.specs.Picture.{hidden_above, has_value, valued, only_valued, none_valued, stack_hidden}
 use Rattle.perm_core.specs.NextPicture.{Ends, renamed, is_rooted, goal, goal_of, goal_into, ended_to}
@@ -33,8 +33,8 @@ use Rattle.perm_core.proofs.KeepsPicture.Labels.CarriedValues.{LentStays, StackS
 -- ---------- lists ----------
 -- what stands in a list after a change stands there by it, or stood there before
 pub set-cases : {A : Type 0} (vs : List A) (x : ℕ) (new : A) (i : ℕ) (v : A) → slice_get (slice_set vs x new) i ≡ Some v → ((i ≡ x) × (new ≡ v)) ⊎ ((i ≡ x → ⊥) × (slice_get vs i ≡ Some v))
-set-cases [] x new i v e = none_some e
-set-cases (a ∷ vs) zero new zero v e = inl (refl, some_inj e)
+set-cases [] x new i v e = none-some e
+set-cases (a ∷ vs) zero new zero v e = inl (refl, some-inj e)
 set-cases (a ∷ vs) zero new (suc i) v e = inr (λ q. omega (arith, q), e)
 set-cases (a ∷ vs) (suc x) new zero v e = inr (λ q. omega (arith, q), e)
 set-cases (a ∷ vs) (suc x) new (suc i) v e = go (set-cases vs x new i v e)
@@ -77,14 +77,14 @@ nothing-below (suc n) S x less e = go (λ l q. nothing-below n S x l q) (S n) (s
     go : (x < n → some_below n S ≡ false → S x ≡ false) → (a b : Bool) → S n ≡ a → some_below n S ≡ b → a || b ≡ false → (t : Bool) → nat_eq x n ≡ t → S x ≡ false
     go rec true b p q e t r = absurd (cc)
     go rec false true p q e t r = absurd (cc)
-    go rec false false p q e true r = ap S (eq_true x n r) ∙ p
+    go rec false false p q e true r = ap S (eq-true x n r) ∙ p
     go rec false false p q e false r = rec (below (nat_eq x n) refl r) q
       where
         below : (t : Bool) → nat_eq x n ≡ t → t ≡ false → x < n
         below t e f = let d : nat_eq x n ≡ false = e ∙ f in grind (arith, nat_tests)
 
 pub get-less : {A : Type 0} (vs : List A) (x : ℕ) (v : A) → slice_get vs x ≡ Some v → x < length vs
-get-less [] x v e = none_some e
+get-less [] x v e = none-some e
 get-less (a ∷ vs) zero v e = omega arith
 get-less (a ∷ vs) (suc x) v e = let less : x < length vs = get-less vs x v e in omega (arith, less)
 
@@ -208,7 +208,7 @@ module _ (w : Way) (j : ℕ) where
   own-outside to q e = ap (λ t. cond t to (OwnOf q)) e
 
   pub own-inside : (to : Region) → renamed (Ends w (suc j) to) (OwnOf inner) ≡ to
-  own-inside to = ap (λ t. cond t to (OwnOf inner)) (together (same_way w w) (nat_eq (suc j) (suc j)) (way-same w) (eq_itself (suc j)))
+  own-inside to = ap (λ t. cond t to (OwnOf inner)) (together (same_way w w) (nat_eq (suc j) (suc j)) (way-same w) (eq-itself (suc j)))
 
   -- where a value goes is no zone that ends
   pub goal-stays : (to e : Region) (z : Zone) (q : Perm) → is_rooted w (suc j) z ≡ false → ((r : Region) → r ≡ e → renamed (Ends w (suc j) to) r ≡ r) → renamed (Ends w (suc j) to) (goal q e (OwnOf z)) ≡ goal q e (OwnOf z)

@@ -30,7 +30,7 @@ use Rattle.perm_meaning.specs.Effects.{first_vars}
 use Rattle.perm_meaning.specs.Custody.{Moves as Moving, while_called, lent_by}
 use Rattle.perm_meaning.specs.Machine.{Frame, OpenCall, Way, Here, On, done}
 use Rattle.perm_meaning.specs.NamedHeap.{Held, Own, Branch}
-use Rattle.perm_meaning.proofs.SameName.{together, eq_itself}
+use Rattle.perm_meaning.proofs.SameName.{together, eq-itself}
 use Rattle.perm_core.specs.Core.{core}
 use Rattle.perm_core.specs.Marked.{call_right, calls_right}
 use Rattle.perm_core.specs.Regions.{Zone, Base, OwnOf, OfVariable, OfField, Labels, same_way, same_region, calls, zones, top_zone}
@@ -82,7 +82,7 @@ module _ (c : Context) (w : Way) (k : ℕ) (into : Option ℕ) (tie : Tie) (cons
       receiver Raises true = kept
       receiver Shares false = hands-none w k (just y)
       receiver Raises false = hands-none w k (just y)
-      receiver Lends b = hands-one w k (just y) y (OwnOf z) (eq_itself y) refl (λ x. refl)
+      receiver Lends b = hands-one w k (just y) y (OwnOf z) (eq-itself y) refl (λ x. refl)
 
 -- ---------- however it is tied ----------
 module _ (u : UnitCode) (labels : Labels) (h : Objects Name) (c : Context) (w : Way) (z : Zone) (st : List (Frame Held)) (l : Own) (fit : AllFit u labels h (top_zone w z st) w (calls st) c.vars l.vars) where

@@ -27,7 +27,7 @@ use Rattle.perm_meaning.specs.Expressions.{tagged, assign, clear, clear_all}
 use Rattle.perm_meaning.specs.Custody.{from_either}
 use Rattle.perm_meaning.specs.Machine.{Frame, OpenRecover, Way, Here, On, done}
 use Rattle.perm_meaning.specs.NamedHeap.{Held, Own, Branch}
-use Rattle.perm_meaning.proofs.SameName.{eq_itself}
+use Rattle.perm_meaning.proofs.SameName.{eq-itself}
 use Rattle.perm_core.specs.Core.{core}
 use Rattle.perm_core.specs.Regions.{Zone, Base, Region, OwnOf, OfVariable, Labels, calls, zones, top_zone}
 use Rattle.perm_core.specs.Picture.{context_of, variables_fit, stack_fits, tree_fits, object_fits, valued, hidden_above, context_above, grown, recover_right, code_right, stack_right, only_valued, none_valued, stack_hidden}
@@ -55,10 +55,10 @@ pub give-types : (c : Context) (v x : ℕ) (G : Vars) → IsAllowed c (Given v x
 give-types c v x G allowed = go (get-some c.vars v there_v) (get-some c.vars x there_x)
   where
     there_v : v < length c.vars
-    there_v = part-known c (Given v x) G allowed v (or_left (nat_eq v v) (nat_eq v x) (eq_itself v))
+    there_v = part-known c (Given v x) G allowed v (or_left (nat_eq v v) (nat_eq v x) (eq-itself v))
 
     there_x : x < length c.vars
-    there_x = part-known c (Given v x) G allowed x (or_right (nat_eq x v) (nat_eq x x) (eq_itself x))
+    there_x = part-known c (Given v x) G allowed x (or_right (nat_eq x v) (nat_eq x x) (eq-itself x))
 
     order_of : (a b : Bool) → a ≡ true → (a && not b) ≡ false → b ≡ true
     order_of true true e f = refl

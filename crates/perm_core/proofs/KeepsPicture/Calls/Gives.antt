@@ -23,8 +23,8 @@ use Rattle.perm_meaning.specs.Expressions.{tagged, assign, cleared_slot, clear, 
 use Rattle.perm_meaning.specs.Custody.{from_either_at, from_either}
 use Rattle.perm_meaning.specs.Machine.{Frame, Way}
 use Rattle.perm_meaning.specs.NamedHeap.{Held}
-use Rattle.perm_meaning.proofs.SameName.{eq_true}
-use Rattle.perm_meaning.proofs.Leads.{some_inj, none_some}
+use Rattle.perm_meaning.proofs.SameName.{eq-true}
+use Rattle.perm_meaning.proofs.Leads.{some-inj, none-some}
 use Rattle.perm_rules.specs.Scoping.{hides_tied}
 use Rattle.perm_core.specs.Regions.{Zone, Base, Region, OwnOf, OfVariable, OfField, Labels, same_way, same_region, is_frozen, is_absent, var_may_lead, calls, zones, top_zone}
 use Rattle.perm_core.specs.Picture.{context_of, value_fits, variables_fit, stack_fits, stack_hidden, hidden_above, has_value, valued, only_valued, object_fits}
@@ -41,8 +41,8 @@ pub clear-cases : (vs : List Held) (y x : ℕ) (a : Value Name) → slice_get (c
 clear-cases vs y x a has = go (set-cases vs y (cleared_slot tagged (slice_get vs y)) x (Some a) has)
   where
     no-value : (o : Option Held) → cleared_slot tagged o ≡ Some a → ⊥
-    no-value None e = none_some e
-    no-value (Some v) e = none_some e
+    no-value None e = none-some e
+    no-value (Some v) e = none-some e
 
     go : ((x ≡ y) × (cleared_slot tagged (slice_get vs y) ≡ Some a)) ⊎ ((x ≡ y → ⊥) × (slice_get vs x ≡ Some (Some a))) → (x ≡ y → ⊥) × (slice_get vs x ≡ Some (Some a))
     go (inl q) = absurd (no-value (slice_get vs y) q.1)
@@ -52,7 +52,7 @@ not-equal : (x y : ℕ) → (x ≡ y → ⊥) → nat_eq x y ≡ false
 not-equal x y n = go (nat_eq x y) refl
   where
     go : (t : Bool) → nat_eq x y ≡ t → nat_eq x y ≡ false
-    go true e = absurd (n (eq_true x y e))
+    go true e = absurd (n (eq-true x y e))
     go false e = e
 
 pub clear_all-cases : (own : List ℕ) (vs : List Held) (x : ℕ) (a : Value Name) → slice_get (clear_all tagged vs own) x ≡ Some (Some a) → (those own x ≡ false) × (slice_get vs x ≡ Some (Some a))
@@ -68,8 +68,8 @@ clear_all-length (y ∷ own) vs = clear_all-length own (clear tagged vs y) ∙ s
 
 -- what stands in a list of two stands in the one or in the other
 either-from : {A : Type 0} (G : Vars) (i : ℕ) (vs ws : List A) (x : ℕ) (a : A) → slice_get (from_either_at i G vs ws) x ≡ Some a → (y : ℕ) → y ≡ i + x → ((G y ≡ true) × (slice_get vs x ≡ Some a)) ⊎ ((G y ≡ false) × (slice_get ws x ≡ Some a))
-either-from G i [] ws x a has y e = none_some has
-either-from G i (v ∷ vs) [] x a has y e = none_some has
+either-from G i [] ws x a has y e = none-some has
+either-from G i (v ∷ vs) [] x a has y e = none-some has
 either-from G i (v ∷ vs) (w ∷ ws) zero a has y e = let same : i ≡ y = omega (arith, e) in subst (λ y. ((G y ≡ true) × (Some v ≡ Some a)) ⊎ ((G y ≡ false) × (Some w ≡ Some a))) same (go (G i) refl has)
   where
     go : (t : Bool) → G i ≡ t → Some (cond t v w) ≡ Some a → ((G i ≡ true) × (Some v ≡ Some a)) ⊎ ((G i ≡ false) × (Some w ≡ Some a))
@@ -257,8 +257,8 @@ module _ (u : UnitCode) (labels : Labels) (h : Objects Name) (w : Way) (z : Zone
         go (inr e) = either (either-cases (those hides) saved cleared y (Some a) e.1)
         go (inl e) =
             subst (λ y. value_fits h (λ p n. var_may_lead p (OfVariable w k0 y) zout (after n)) ty a ≡ true) (sym e.0)
-            (subst (λ a. value_fits h (λ p n. var_may_lead p (OfVariable w k0 x) zout (after n)) ty a ≡ true) (some_inj e.1)
-            (subst (λ ty. value_fits h (λ p n. var_may_lead p (OfVariable w k0 x) zout (after n)) ty val ≡ true) (some_inj (sym type-x ∙ ap (slice_get c.vars) (sym e.0) ∙ is)) the-given))
+            (subst (λ a. value_fits h (λ p n. var_may_lead p (OfVariable w k0 x) zout (after n)) ty a ≡ true) (some-inj e.1)
+            (subst (λ ty. value_fits h (λ p n. var_may_lead p (OfVariable w k0 x) zout (after n)) ty val ≡ true) (some-inj (sym type-x ∙ ap (slice_get c.vars) (sym e.0) ∙ is)) the-given))
 
     lengths : length saved ≡ length cleared
     lengths = sym laid.lengths ∙ before.lengths ∙ sym (clear_all-length own (clear tagged vs v) ∙ set-length vs v (cleared_slot tagged (slice_get vs v)))

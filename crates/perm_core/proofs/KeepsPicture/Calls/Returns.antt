@@ -23,8 +23,8 @@ use Rattle.perm_meaning.specs.Expressions.{assign_into}
 use Rattle.perm_meaning.specs.Turns.{lent_back}
 use Rattle.perm_meaning.specs.Machine.{Frame, Way}
 use Rattle.perm_meaning.specs.NamedHeap.{Held}
-use Rattle.perm_meaning.proofs.SameName.{together, eq_true, eq_itself}
-use Rattle.perm_meaning.proofs.Leads.{some_inj, none_some}
+use Rattle.perm_meaning.proofs.SameName.{together, eq-true, eq-itself}
+use Rattle.perm_meaning.proofs.Leads.{some-inj, none-some}
 use Rattle.perm_core.specs.Regions.{Zone, Base, Region, OwnOf, OfVariable, Labels, same_region, is_absent, var_may_lead, calls, zones, top_zone}
 use Rattle.perm_core.specs.Picture.{context_of, has_shape, value_fits, variables_fit, lent_right, lent_fits, result_fits, stack_fits, stack_hidden, object_fits}
 use Rattle.perm_core.specs.NextPicture.{Ends, renamed, moved, is_rooted, goal, goal_of, goal_into, perm_of, ended_to, tie_moves}
@@ -37,7 +37,7 @@ pub shape-true : (s t : Shape) → same_shape s t ≡ true → s ≡ t
 shape-true Array Array e = refl
 shape-true Array (Class k) e = absurd (cc)
 shape-true (Class j) Array e = absurd (cc)
-shape-true (Class j) (Class k) e = ap (λ z. Class z) (eq_true j k e)
+shape-true (Class j) (Class k) e = ap (λ z. Class z) (eq-true j k e)
 
 -- a value of one type comes into a variable of another of its kind
 module _ (h : Objects Name) (test test' : Perm → Name → Bool) where
@@ -157,20 +157,20 @@ module _ (u : UnitCode) (labels : Labels) (h : Objects Name) (w : Way) (z : Zone
       → value_fits h (λ p n. var_may_lead p (OfVariable w k0 y) zout (ends_by tie y t to (labels n))) ty v ≡ true
   lent-comes Shares y t ty to v o q e = absurd (cc)
   lent-comes Raises y t ty to v o q e = absurd (cc)
-  lent-comes Lends y t ty to v None q e = none_some q
+  lent-comes Lends y t ty to v None q e = none-some q
   lent-comes Lends y t ty to v (Some Long) q e = absurd (cc)
   lent-comes Lends y t ty to v (Some Boolean) q e = absurd (cc)
   lent-comes Lends y t ty to v (Some (Ref Writable s)) q e = absurd (cc)
   lent-comes Lends y t ty to v (Some (Ref Readable s)) q e = absurd (cc)
   lent-comes Lends y t ty to v (Some (Ref Immutable s)) q e = absurd (cc)
   lent-comes Lends y t ty to v (Some (Ref Isolated s)) q e =
-      subst (λ ty. value_fits h (λ p n. var_may_lead p (OfVariable w k0 y) zout (renamed (Ends w (suc j0) (OfVariable w k0 y)) (labels n))) ty v ≡ true) (some_inj q)
+      subst (λ ty. value_fits h (λ p n. var_may_lead p (OfVariable w k0 y) zout (renamed (Ends w (suc j0) (OfVariable w k0 y)) (labels n))) ty v ≡ true) (some-inj q)
       (value-into h (λ p n. same_region (labels n) (OwnOf (Base w (suc j0)))) (λ p n. var_may_lead p (OfVariable w k0 y) zout (renamed (Ends w (suc j0) (OfVariable w k0 y)) (labels n))) Isolated Isolated s s v (same s)
       (λ n f. is-same (ap (renamed (Ends w (suc j0) (OfVariable w k0 y))) (region-true (labels n) (OwnOf (Base w (suc j0))) f) ∙ own-inside w j0 (OfVariable w k0 y))) e)
     where
       same : (s : Shape) → same_shape s s ≡ true
       same Array = refl
-      same (Class k) = eq_itself k
+      same (Class k) = eq-itself k
 
   -- ---------- the caller ----------
   module _ (tie : Tie) (into : Option ℕ) (y : ℕ) (saved : List Held) (lent : Option Held) (caller : ℕ) (t : Ty) (v : Value Name) where
@@ -248,7 +248,7 @@ module _ (u : UnitCode) (labels : Labels) (h : Objects Name) (w : Way) (z : Zone
               let type : type_of (context_of u caller) i ≡ Some s = ap (slice_get types) (sym q.0) ∙ is in
               let home : to ≡ goal_of (Some s) (OfVariable w k0 i) (OwnOf zout) = ap (λ i. goal_into (context_of u caller) w z st i) (sym e) ∙ ap (λ o. goal_of o (OfVariable w k0 i) (OwnOf zout)) type in
               subst (λ x. value_fits h (λ p n. var_may_lead p (OfVariable w k0 x) zout (after n)) s a ≡ true) (sym q.0)
-              (subst (λ a. value_fits h (λ p n. var_may_lead p (OfVariable w k0 i) zout (after n)) s a ≡ true) (some_inj q.1)
+              (subst (λ a. value_fits h (λ p n. var_may_lead p (OfVariable w k0 i) zout (after n)) s a ≡ true) (some-inj q.1)
               (subst (λ to. value_fits h (λ p n. var_may_lead p (OfVariable w k0 i) zout (ends_by tie y t to (labels n))) s v ≡ true) (sym home)
               (result-comes tie y i t s v (taken i s (sym e) type fits-result) (subst (λ to. value_fits h (λ p n. var_may_lead p to (zone_in tie) (labels n)) t v ≡ true) home came))))
 

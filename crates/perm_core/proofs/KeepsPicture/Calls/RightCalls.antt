@@ -29,7 +29,7 @@ use Rattle.perm_meaning.specs.Names.{Name}
 use Rattle.perm_meaning.specs.Objects.{Objects}
 use Rattle.perm_meaning.specs.Machine.{Frame}
 use Rattle.perm_meaning.specs.NamedHeap.{Held}
-use Rattle.perm_meaning.proofs.SameName.{eq_itself, eq_true}
+use Rattle.perm_meaning.proofs.SameName.{eq-itself, eq-true}
 use Rattle.perm_core.specs.Marked.{same_tie, is_called_on, call_right}
 use Rattle.perm_core.specs.Regions.{Labels}
 use Rattle.perm_core.specs.Picture.{context_if, context_of, context_above, result_fits}
@@ -128,7 +128,7 @@ right-call u below n st into tie consumed y m args r G here allowed marked = go 
     marks = and_parts (same_tie tie (tie_of (type_of c y) consumed (list_all (is_harmless (type_of c)) args))) (is_called_on (type_of c y) (slice_get c.routines m)) marked
 
     class : (p : Perm) (k : ℕ) → type_of c y ≡ Some (Ref p (Class k)) → k ≡ r.class
-    class p k is = eq_true k r.class (sym (λ j. is_called_on (is j) (routine j)) ∙ marks.1)
+    class p k is = eq-true k r.class (sym (λ j. is_called_on (is j) (routine j)) ∙ marks.1)
 
     second : (p q s : Bool) → q ≡ true → (p || (q || s)) ≡ true
     second true q s e = refl
@@ -136,7 +136,7 @@ right-call u below n st into tie consumed y m args r G here allowed marked = go 
     second false false s e = absurd (let no : ⊥ = cc e in no)
 
     type : (t : Ty) × (type_of c y ≡ Some t)
-    type = get-some c.vars y (part-known C (Simple (Invoke into tie consumed y m args)) G allowed y (second (any_in_option (nat_eq y) into) (nat_eq y y) (list_any (any_in_argument (nat_eq y)) args) (eq_itself y)))
+    type = get-some c.vars y (part-known C (Simple (Invoke into tie consumed y m args)) G allowed y (second (any_in_option (nat_eq y) into) (nat_eq y y) (list_any (any_in_argument (nat_eq y)) args) (eq-itself y)))
 
     wrong : (isnt_object c y ≡ false) × ((list_any (argument_wrong c) args || call_misfits c into args (slice_get c.routines m)) ≡ false)
     wrong = or_parts (isnt_object c y) (list_any (argument_wrong c) args || call_misfits c into args (slice_get c.routines m)) (applies-none C (Simple (Invoke into tie consumed y m args)) G allowed WrongKind)
@@ -159,7 +159,7 @@ right-call u below n st into tie consumed y m args r G here allowed marked = go 
 
     taken : (x : ℕ) → into ≡ Some x → (s : Ty) × (type_of c x ≡ Some s)
     taken x q =
-        get-some c.vars x (part-known C (Simple (Invoke into tie consumed y m args)) G allowed x (stands (any_in_option (nat_eq x) into) (nat_eq x y || list_any (any_in_argument (nat_eq x)) args) (ap (any_in_option (nat_eq x)) q ∙ eq_itself x)))
+        get-some c.vars x (part-known C (Simple (Invoke into tie consumed y m args)) G allowed x (stands (any_in_option (nat_eq x) into) (nat_eq x y || list_any (any_in_argument (nat_eq x)) args) (ap (any_in_option (nat_eq x)) q ∙ eq-itself x)))
       where
         stands : (a b : Bool) → a ≡ true → (a || b) ≡ true
         stands true b e = refl

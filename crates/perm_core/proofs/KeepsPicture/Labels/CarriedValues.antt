@@ -11,7 +11,7 @@ use Rattle.perm_meaning.specs.Objects.{Objects}
 use Rattle.perm_meaning.specs.Machine.{Frame, OpenBlock, OpenRecover, OpenCall, Way}
 use Rattle.perm_meaning.specs.NamedHeap.{Held}
 use Rattle.perm_meaning.proofs.SameName.{together}
-use Rattle.perm_meaning.proofs.Leads.{some_inj}
+use Rattle.perm_meaning.proofs.Leads.{some-inj}
 use Rattle.perm_core.specs.Regions.{Zone, Base, Region, OwnOf, OfVariable, Labels, same_region, var_may_lead, calls, zones, top_zone}
 use Rattle.perm_core.specs.Picture.{context_of, value_fits, variable_fits, variables_fit, lent_right, lent_fits, result_fits, stack_fits}
 use Rattle.perm_core.proofs.Commute.LeadsTo.{Holds, holds}
@@ -34,7 +34,7 @@ module _ (u : UnitCode) (labels : Labels) (h : Objects Name) (z : Zone) (w : Way
   to-all ts vs e = record { lengths = same-lengths 0 ts vs e; each = λ x t v is has. one x t v is (holds u labels h w z k ts vs x v e has) }
     where
       one : (x : ℕ) (t : Ty) (v : Value Name) → slice_get ts x ≡ Some t → Holds u labels h w z k (slice_get ts x) x v → value_fits h (λ p n. var_may_lead p (OfVariable w k x) z (labels n)) t v ≡ true
-      one x t v is d = subst (λ t. value_fits h (λ p n. var_may_lead p (OfVariable w k x) z (labels n)) t v ≡ true) (some_inj (sym d.is ∙ is)) d.fits
+      one x t v is d = subst (λ t. value_fits h (λ p n. var_may_lead p (OfVariable w k x) z (labels n)) t v ≡ true) (some-inj (sym d.is ∙ is)) d.fits
 
   from-number : (x : ℕ) (ts : List Ty) (vs : List Held) → length ts ≡ length vs
       → ((i : ℕ) (t : Ty) (v : Value Name) → slice_get ts i ≡ Some t → slice_get vs i ≡ Some (Some v) → (y : ℕ) → y ≡ x + i → value_fits h (λ p n. var_may_lead p (OfVariable w k y) z (labels n)) t v ≡ true)

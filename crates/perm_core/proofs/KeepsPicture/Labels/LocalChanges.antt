@@ -8,7 +8,7 @@ use Rattle.perm_meaning.specs.Effects.{Make}
 use Rattle.perm_meaning.specs.Machine.{Way}
 use Rattle.perm_meaning.specs.NamedHeap as named
 use Rattle.perm_meaning.specs.NamedHeap.{Heap, Op}
-use Rattle.perm_meaning.proofs.SameName.{name_true}
+use Rattle.perm_meaning.proofs.SameName.{name-true}
 use Rattle.perm_tree.specs.declared.ast.Shape.{Shape}
 use Rattle.perm_core.specs.Regions.{Zone, Base, Under, Region, OwnOf, OfVariable, OfField, Loose, Labels, same_zone, same_region, is_absent}
 use Rattle.perm_core.specs.Picture.{has_shape}
@@ -138,5 +138,5 @@ local-around u fits at labels heap o c is makes = record {
     stays n k len (Some m) is e = go (same_name n m.0) refl
       where
         go : (t : Bool) → same_name n m.0 ≡ t → cond t m.1 (moved c.moves (labels n)) ≡ moved c.moves (labels n)
-        go true q = absurd (let none : has_shape (heap.objects n) k len ≡ false = ap (λ (x : Name). has_shape (heap.objects x) k len) (name_true n m.0 q) ∙ ap (λ o. has_shape o k len) is in let no : true ≡ false = sym e ∙ none in let z : ⊥ = cc no in z)
+        go true q = absurd (let none : has_shape (heap.objects n) k len ≡ false = ap (λ (x : Name). has_shape (heap.objects x) k len) (name-true n m.0 q) ∙ ap (λ o. has_shape o k len) is in let no : true ≡ false = sym e ∙ none in let z : ⊥ = cc no in z)
         go false q = refl

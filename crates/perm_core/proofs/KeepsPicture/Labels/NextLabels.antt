@@ -11,7 +11,7 @@ use Rattle.perm_meaning.specs.Effects.{Tick, Load, Store, Take, Make}
 use Rattle.perm_meaning.specs.Machine.{Frame, Blocks, Leaf, Fork, Way, Here, Final, final, Did, Dies, done, resumed, join_of, fill}
 use Rattle.perm_meaning.specs.NamedHeap.{Held, Heap, Op, Own, Branch, Task, found, found_nothing, has_room, find}
 use Rattle.perm_meaning.specs.Steps.{Found, Refused, within}
-use Rattle.perm_meaning.proofs.Leads.{some_inj, none_some}
+use Rattle.perm_meaning.proofs.Leads.{some-inj, none-some}
 use Rattle.perm_core.specs.Core.{core, look}
 use Rattle.perm_core.specs.Endings.{Ending}
 use Rattle.perm_core.specs.Regions.{Zone, Labels}
@@ -100,8 +100,8 @@ module _ (u : UnitCode) (l : Own) (w : Held) where
   makes-by-mark c st o d turn by shape n same = go (turn-makes c st o d turn)
     where
       go : (made_by o ≡ None) ⊎ (made_by o ≡ Some l.mark) → by ≡ l.mark
-      go (inl q) = none_some (sym q ∙ ap made_by same)
-      go (inr q) = some_inj (sym (ap made_by same) ∙ q)
+      go (inl q) = none-some (sym q ∙ ap made_by same)
+      go (inr q) = some-inj (sym (ap made_by same) ∙ q)
 
 module _ (u : UnitCode) (limit : ℕ) (labels : Labels) (heap : Heap) where
   -- ---------- what is asked of a turn and of a join ----------
@@ -191,7 +191,7 @@ module _ (u : UnitCode) (limit : ℕ) (labels : Labels) (heap : Heap) where
       go : EventAt u o None Here (Leaf b) (fill (core u) Here (Leaf b) None) → Next o None at z (Leaf b)
       go (refused_leaf _ t after q open_ became) =
           next-by o None at z (Leaf b) _ no_change same became refl (λ n. subst (λ (h : Objects Name). object_fits u labels h n (h n) ≡ true) (sym objects_same) (node.objects n)) around
-      go (told_leaf _ t w d after q open_ due turn became) = none_some q
+      go (told_leaf _ t w d after q open_ due turn became) = none-some q
 
   -- a parent whose sides have ended
   pub join-next : (k : Ending) (below : List ℕ) (at : Way → Way) (z : Zone) (b : Branch) (p : Blocks) (l r : Task) (H : Vars) (o : Op) (v : Option Held) → NodeFits u labels heap k below at z (Fork b p l r) H → look u Here (Fork b p l r) ≡ Some o

@@ -16,7 +16,7 @@ use Rattle.perm_meaning.specs.Objects.{Object, Objects, size, new_object, with_f
 use Rattle.perm_meaning.specs.Effects.{Tick, Load, Store, Take, Make}
 use Rattle.perm_meaning.specs.Machine.{Frame, OpenBlock, OpenRecover, OpenCall, Close, Leaf, Fork, Way, Here, GoL, GoR}
 use Rattle.perm_meaning.specs.NamedHeap.{Held, Heap, Op, Branch, Task, has_room, stored, allocated, after}
-use Rattle.perm_meaning.proofs.SameName.{together, name_true}
+use Rattle.perm_meaning.proofs.SameName.{together, name-true}
 use Rattle.perm_core.specs.Regions.{Zone, Base, OwnOf, OfVariable, OfField, Labels, same_region, is_absent, var_may_lead, field_may_lead, calls, zones, top_zone, left_zone, right_zone}
 use Rattle.perm_core.specs.Picture.{context_of, mode_in, length_fits, has_shape, value_fits, variable_fits, variables_fit, lent_right, lent_fits, result_fits, stack_fits, has_end, branch_fits, tree_fits, fields_fit, class_fits, values_fit, object_fits}
 use Rattle.perm_core.proofs.KeepsPicture.Calls.CallEnds.{set-length}
@@ -184,7 +184,7 @@ after-keeps u fits (Take r f) labels h new n k len e = (stored-shape (Some Null)
 after-keeps u fits (Make by shape m) labels h new n k len e = (by_room (has_room fits m h) (fits (size m)), refl)
   where
     by_name : (t : Bool) → same_name n (next_name by) ≡ t → has_shape (this_or t (new_object u shape m) (h.objects n)) k len ≡ true
-    by_name true q = absurd (let z : has_shape (h.objects n) k len ≡ false = ap (λ (x : Name). has_shape (h.objects x) k len) (name_true n (next_name by) q) ∙ ap (λ x. has_shape x k len) (new by shape m refl) in let w : true ≡ false = sym e ∙ z in let no : ⊥ = cc w in no)
+    by_name true q = absurd (let z : has_shape (h.objects n) k len ≡ false = ap (λ (x : Name). has_shape (h.objects x) k len) (name-true n (next_name by) q) ∙ ap (λ x. has_shape x k len) (new by shape m refl) in let w : true ≡ false = sym e ∙ z in let no : ⊥ = cc w in no)
     by_name false q = e
 
     by_room : (a b : Bool) → has_shape ((allocated a b u by shape m h).objects n) k len ≡ true

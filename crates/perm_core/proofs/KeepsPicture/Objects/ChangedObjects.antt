@@ -12,8 +12,8 @@ use Rattle.perm_meaning.specs.Names.{Name, same_name}
 use Rattle.perm_meaning.specs.Objects.{Object, Objects, with_field_if, put}
 use Rattle.perm_meaning.specs.Effects.{Store}
 use Rattle.perm_meaning.specs.NamedHeap.{Held, Heap, stored}
-use Rattle.perm_meaning.proofs.Leads.{none_some, some_inj}
-use Rattle.perm_meaning.proofs.SameName.{together, name_true}
+use Rattle.perm_meaning.proofs.Leads.{none-some, some-inj}
+use Rattle.perm_meaning.proofs.SameName.{together, name-true}
 use Rattle.perm_core.specs.Regions.{OfField, Labels, is_absent, field_may_lead}
 use Rattle.perm_core.specs.Picture.{length_fits, has_shape, value_fits, fields_fit, is_number, values_fit, object_fits}
 use Rattle.perm_core.proofs.KeepsPicture.Labels.OtherHeaps.{KeepsShapes, object-more, after-keeps}
@@ -22,11 +22,11 @@ module _ (u : UnitCode) (labels : Labels) (h : Objects Name) where
   -- a field takes a value that fits it
   pub fields-set : (o : Name) (g f : ℕ) (ts : List Ty) (vs : List (Value Name)) (t : Ty) (v : Value Name) → slice_get ts f ≡ Some t
       → ((k : ℕ) → k ≡ g + f → value_fits h (λ p n. field_may_lead p (OfField o k) (labels o) (labels n)) t v ≡ true) → fields_fit u labels h o g ts vs ≡ true → fields_fit u labels h o g ts (slice_set vs f v) ≡ true
-  fields-set o g f [] vs t v is fits e = none_some is
+  fields-set o g f [] vs t v is fits e = none-some is
   fields-set o g f (s ∷ ts) [] t v is fits e = absurd (let no : ⊥ = cc e in no)
   fields-set o g zero (s ∷ ts) (a ∷ vs) t v is fits e =
       together (value_fits h (λ p n. field_may_lead p (OfField o g) (labels o) (labels n)) s v) (fields_fit u labels h o (suc g) ts vs)
-      (subst (λ (r : Ty). value_fits h (λ p n. field_may_lead p (OfField o g) (labels o) (labels n)) r v ≡ true) (sym (some_inj is)) (fits g (omega arith)))
+      (subst (λ (r : Ty). value_fits h (λ p n. field_may_lead p (OfField o g) (labels o) (labels n)) r v ≡ true) (sym (some-inj is)) (fits g (omega arith)))
       (and_parts (value_fits h (λ p n. field_may_lead p (OfField o g) (labels o) (labels n)) s a) (fields_fit u labels h o (suc g) ts vs) e).1
   fields-set o g (suc f) (s ∷ ts) (a ∷ vs) t v is fits e =
       let p = and_parts (value_fits h (λ p n. field_may_lead p (OfField o g) (labels o) (labels n)) s a) (fields_fit u labels h o (suc g) ts vs) e in
@@ -54,7 +54,7 @@ module _ (u : UnitCode) (labels : Labels) (h : Objects Name) (r : Name) (f : ℕ
       by_name true q = go (h n) refl (all n)
         where
           same : n ≡ r
-          same = name_true n r q
+          same = name-true n r q
 
           go : (o : Option (Object Name)) → h n ≡ o → object_fits u labels h n o ≡ true → object_fits u labels more n (with_field_if true f d o) ≡ true
           go None here e = e

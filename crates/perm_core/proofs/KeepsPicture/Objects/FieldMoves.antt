@@ -9,7 +9,7 @@ use Rattle.perm_meaning.specs.Objects.{Objects}
 use Rattle.perm_meaning.specs.Expressions.{assign}
 use Rattle.perm_meaning.specs.Machine.{Frame, Way}
 use Rattle.perm_meaning.specs.NamedHeap.{Held}
-use Rattle.perm_meaning.proofs.Leads.{some_inj}
+use Rattle.perm_meaning.proofs.Leads.{some-inj}
 use Rattle.perm_core.specs.Regions.{Zone, Region, OwnOf, OfVariable, Labels, var_may_lead}
 use Rattle.perm_core.specs.Picture.{value_fits, variables_fit, stack_fits}
 use Rattle.perm_core.proofs.KeepsPicture.Calls.CallEnds.{set-cases, set-length}
@@ -54,8 +54,8 @@ module _ (u : UnitCode) (labels labels' : Labels) (h : Objects Name) (m : MovesF
         where
           pick : ((i ≡ x) × (Some d ≡ Some a)) ⊎ ((i ≡ x → ⊥) × (slice_get vs i ≡ Some (Some a))) → Fits i s a
           pick (inl q) =
-              let same : t ≡ s = some_inj (sym type ∙ ap (slice_get ts) (sym q.0) ∙ is) in
-              subst (λ (j : ℕ). Fits j s a) (sym q.0) (subst (λ (r : Ty). Fits x r a) same (subst (λ (b : Value Name). Fits x t b) (some_inj q.1) comes))
+              let same : t ≡ s = some-inj (sym type ∙ ap (slice_get ts) (sym q.0) ∙ is) in
+              subst (λ (j : ℕ). Fits j s a) (sym q.0) (subst (λ (r : Ty). Fits x r a) same (subst (λ (b : Value Name). Fits x t b) (some-inj q.1) comes))
           pick (inr q) =
               subst (λ (ls : Labels). value_fits h (λ p n. var_may_lead p (OfVariable w k i) z (ls n)) s a ≡ true) (sym m.so)
               (one-carry u labels h ρ m.good w w k k i i z z s a (m.stay w k i) (m.own z) (fit.each i s a is q.1))

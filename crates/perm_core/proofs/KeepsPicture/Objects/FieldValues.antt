@@ -11,7 +11,7 @@ use Rattle.perm_rules.specs.Parts.{field_among}
 use Rattle.perm_meaning.specs.Values.{Value, Number, Truth, Null, Reference}
 use Rattle.perm_meaning.specs.Names.{Name}
 use Rattle.perm_meaning.specs.Objects.{Object, Objects, value_in, field_of}
-use Rattle.perm_meaning.proofs.Leads.{none_some, some_inj}
+use Rattle.perm_meaning.proofs.Leads.{none-some, some-inj}
 use Rattle.perm_meaning.proofs.SameName.{together}
 use Rattle.perm_core.specs.Regions.{OfField, Labels, is_absent, field_may_lead}
 use Rattle.perm_core.specs.Picture.{context_if, context_of, length_fits, has_shape, value_fits, fields_fit, is_number, class_fits, values_fit, object_fits}
@@ -43,12 +43,12 @@ module _ (u : UnitCode) (labels : Labels) (h : Objects Name) (o : Name) where
   same-lengths i (t ∷ ts) (v ∷ vs) e = ap (λ n. suc n) (same-lengths (suc i) ts vs (and_parts (value_fits h (λ p n. field_may_lead p (OfField o i) (labels o) (labels n)) t v) (fields_fit u labels h o (suc i) ts vs) e).1)
 
   from-number : (i : ℕ) (ts : List Ty) (vs : List (Value Name)) → fields_fit u labels h o i ts vs ≡ true → (f : ℕ) (t : Ty) (v : Value Name) → slice_get ts f ≡ Some t → slice_get vs f ≡ Some v → (g : ℕ) → g ≡ i + f → Fits g t v
-  from-number i [] vs e f t v is has g q = none_some is
-  from-number i (s ∷ ts) [] e f t v is has g q = none_some has
+  from-number i [] vs e f t v is has g q = none-some is
+  from-number i (s ∷ ts) [] e f t v is has g q = none-some has
   from-number i (s ∷ ts) (a ∷ vs) e zero t v is has g q =
       let same : g ≡ i = omega (arith, q) in
       let first = (and_parts (value_fits h (λ p n. field_may_lead p (OfField o i) (labels o) (labels n)) s a) (fields_fit u labels h o (suc i) ts vs) e).0 in
-      subst (λ (j : ℕ). Fits j t v) (sym same) (subst (λ (b : Value Name). Fits i t b) (some_inj has) (subst (λ (b : Ty). Fits i b a) (some_inj is) first))
+      subst (λ (j : ℕ). Fits j t v) (sym same) (subst (λ (b : Value Name). Fits i t b) (some-inj has) (subst (λ (b : Ty). Fits i b a) (some-inj is) first))
   from-number i (s ∷ ts) (a ∷ vs) e (suc f) t v is has g q =
       from-number (suc i) ts vs (and_parts (value_fits h (λ p n. field_may_lead p (OfField o i) (labels o) (labels n)) s a) (fields_fit u labels h o (suc i) ts vs) e).1 f t v is has g (omega (arith, q))
 
@@ -102,8 +102,8 @@ module _ (u : UnitCode) (labels : Labels) (h : Objects Name) (o : Name) where
       x.fields.each f t v (sym (ap (λ ts. field_among ts f) x.class) ∙ field) (sym (ap (λ y. value_in y f) x.here) ∙ found)
 
   numbered : (vs : List (Value Name)) (f : ℕ) (v : Value Name) → list_all (is_number u labels h) vs ≡ true → slice_get vs f ≡ Some v → is_number u labels h v ≡ true
-  numbered [] f v e q = none_some q
-  numbered (a ∷ vs) zero v e q = sym (ap (λ b. is_number u labels h b) (some_inj q)) ∙ (and_parts (is_number u labels h a) (list_all (is_number u labels h) vs) e).0
+  numbered [] f v e q = none-some q
+  numbered (a ∷ vs) zero v e q = sym (ap (λ b. is_number u labels h b) (some-inj q)) ∙ (and_parts (is_number u labels h a) (list_all (is_number u labels h) vs) e).0
   numbered (a ∷ vs) (suc f) v e q = numbered vs f v (and_parts (is_number u labels h a) (list_all (is_number u labels h) vs) e).1 q
 
   -- the elements of an array are numbers
@@ -117,7 +117,7 @@ module _ (u : UnitCode) (labels : Labels) (h : Objects Name) (o : Name) where
       number (Reference r n) e = absurd (let no : ⊥ = cc e in no)
 
       go : (x : Option (Object Name)) → object_fits u labels h o x ≡ true → has_shape x Array len ≡ true → value_in x f ≡ Some v → (n : ℤ) × (v ≡ Number n)
-      go None fits shaped found = none_some found
+      go None fits shaped found = none-some found
       go (Some x) fits shaped found =
           let p = and_parts (not (is_absent (labels o))) (values_fit u labels h o x.shape x.values) fits in
           let s = shape-true x.shape Array (and_parts (same_shape x.shape Array) (length_fits Array (length x.values) len) shaped).0 in

@@ -24,8 +24,8 @@ use Rattle.perm_meaning.specs.Names.{Name, same_name}
 use Rattle.perm_meaning.specs.Objects.{Object, Objects, put}
 use Rattle.perm_meaning.specs.Machine.{Frame, Way, Here, On, done}
 use Rattle.perm_meaning.specs.NamedHeap.{Held, Heap, Own, Branch, stored}
-use Rattle.perm_meaning.proofs.Leads.{none_some, some_inj}
-use Rattle.perm_meaning.proofs.SameName.{eq_itself}
+use Rattle.perm_meaning.proofs.Leads.{none-some, some-inj}
+use Rattle.perm_meaning.proofs.SameName.{eq-itself}
 use Rattle.perm_core.specs.Core.{core}
 use Rattle.perm_core.specs.Regions.{Zone, OfVariable, Labels, var_may_lead, calls, top_zone}
 use Rattle.perm_core.specs.Picture.{context_of, has_shape, variables_fit, stack_fits, tree_fits, values_fit, object_fits, valued, context_above, RestGoes}
@@ -47,11 +47,11 @@ module _ (u : UnitCode) (labels : Labels) (heap : Heap) (at : Way → Way) (z : 
 
   -- a number is stored
   number : (v : Held) → option_and_then values.as_number v ≡ Some n → v ≡ Some (Number n)
-  number (Some (Number m)) q = ap (λ k. Some (Number k)) (some_inj q)
-  number (Some (Truth t)) q = none_some q
-  number (Some Null) q = none_some q
-  number (Some (Reference s k)) q = none_some q
-  number None q = none_some q
+  number (Some (Number m)) q = ap (λ k. Some (Number k)) (some-inj q)
+  number (Some (Truth t)) q = none-some q
+  number (Some Null) q = none-some q
+  number (Some (Reference s k)) q = none-some q
+  number None q = none-some q
 
   -- the objects after the store
   abbrev more : Objects Name
@@ -71,7 +71,7 @@ module _ (u : UnitCode) (labels : Labels) (heap : Heap) (at : Way → Way) (z : 
 
   -- the receiver is an array
   receiver : has_shape (h r) Array len ≡ true
-  receiver = of_type (get-some c.vars y (part-known part (Simple (StoreItem y i e)) (valued b.own.vars) allowed y (or_left (nat_eq y y) (any_in_term (nat_eq y) i || any_in_term (nat_eq y) e) (eq_itself y))))
+  receiver = of_type (get-some c.vars y (part-known part (Simple (StoreItem y i e)) (valued b.own.vars) allowed y (or_left (nat_eq y y) (any_in_term (nat_eq y) i || any_in_term (nat_eq y) e) (eq-itself y))))
     where
       wrong : isnt_array c y ≡ false
       wrong = (or_parts (isnt_array part y) (isnt_long part i || isnt_long part e) (applies-none part (Simple (StoreItem y i e)) (valued b.own.vars) allowed WrongKind)).0

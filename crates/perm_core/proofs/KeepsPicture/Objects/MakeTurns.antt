@@ -27,8 +27,8 @@ use Rattle.perm_meaning.specs.Objects.{Object, Objects, zero_of, types_or_none, 
 use Rattle.perm_meaning.specs.Expressions.{assign}
 use Rattle.perm_meaning.specs.Machine.{Frame, Way, Here, On, done}
 use Rattle.perm_meaning.specs.NamedHeap.{Held, Own, Branch}
-use Rattle.perm_meaning.proofs.Leads.{some_inj}
-use Rattle.perm_meaning.proofs.SameName.{together, eq_itself, name_true, name_itself}
+use Rattle.perm_meaning.proofs.Leads.{some-inj}
+use Rattle.perm_meaning.proofs.SameName.{together, eq-itself, name-true, name-itself}
 use Rattle.perm_core.specs.Core.{core}
 use Rattle.perm_core.specs.Regions.{Zone, Region, OwnOf, OfVariable, OfField, Labels, is_absent, var_may_lead, field_may_lead, calls, top_zone}
 use Rattle.perm_core.specs.Picture.{context_of, has_shape, value_fits, variables_fit, stack_fits, tree_fits, fields_fit, is_number, class_fits, values_fit, object_fits, valued, context_above, RestGoes}
@@ -64,15 +64,15 @@ module _ (u : UnitCode) (labels : Labels) (h : Objects Name) (o : Name) where
 
 -- a new object has its shape and length
 new-shape : (u : UnitCode) (shape s : Shape) (n : ℕ) → same_shape shape s ≡ true → has_shape (Some (new_object {R = Name} u shape n)) s (length_of shape n) ≡ true
-new-shape u Array Array n e = ap (λ k. nat_eq k n) (length-replicate n (Number (pos 0))) ∙ eq_itself n
+new-shape u Array Array n e = ap (λ k. nat_eq k n) (length-replicate n (Number (pos 0))) ∙ eq-itself n
 new-shape u (Class k) (Class l) n e = together (nat_eq k l) true e refl
 new-shape u Array (Class l) n e = absurd (let no : ⊥ = cc e in no)
 new-shape u (Class k) Array n e = absurd (let no : ⊥ = cc e in no)
 
 -- the variable that takes it is known, and of its shape
 taker-known : (u : UnitCode) (l : Own) (c : Context) (G : Vars) (i : Instruction) (shape : Shape) (n x : ℕ) → Creates u l i shape n x → IsAllowed c (Simple i) G → x < length c.vars
-taker-known u l c G _ _ _ _ (object x k ts q) allowed = part-known c (Simple (NewObject x k)) G allowed x (eq_itself x)
-taker-known u l c G _ _ _ _ (array x e n) allowed = part-known c (Simple (NewArray x e)) G allowed x (or_left (nat_eq x x) (any_in_term (nat_eq x) e) (eq_itself x))
+taker-known u l c G _ _ _ _ (object x k ts q) allowed = part-known c (Simple (NewObject x k)) G allowed x (eq-itself x)
+taker-known u l c G _ _ _ _ (array x e n) allowed = part-known c (Simple (NewArray x e)) G allowed x (or_left (nat_eq x x) (any_in_term (nat_eq x) e) (eq-itself x))
 
 taker-shaped : (u : UnitCode) (l : Own) (c : Context) (G : Vars) (i : Instruction) (shape : Shape) (n x : ℕ) → Creates u l i shape n x → IsAllowed c (Simple i) G → shapes_differ (Some (Ref Isolated shape)) (type_of c x) ≡ false
 taker-shaped u l c G _ _ _ _ (object x k ts q) allowed = applies-none c (Simple (NewObject x k)) G allowed WrongKind
@@ -110,7 +110,7 @@ module _ (u : UnitCode) (labels : Labels) (h : Objects Name) (at : Way → Way) 
   made-keeps n k l e = by_name (same_name n name) refl
     where
       by_name : (t : Bool) → same_name n name ≡ t → (has_shape (this_or t (new_object u shape len) (h n)) k l ≡ true) × (cond t to (labels n) ≡ labels n)
-      by_name true q = absurd (let none : has_shape (h n) k l ≡ false = ap (λ (m : Name). has_shape (h m) k l) (name_true n name q) ∙ ap (λ o. has_shape o k l) new in let clash : true ≡ false = sym e ∙ none in let no : ⊥ = cc clash in no)
+      by_name true q = absurd (let none : has_shape (h n) k l ≡ false = ap (λ (m : Name). has_shape (h m) k l) (name-true n name q) ∙ ap (λ o. has_shape o k l) new in let clash : true ≡ false = sym e ∙ none in let no : ⊥ = cc clash in no)
       by_name false q = (e, refl)
 
   fit : AllFit u labels h (top_zone (at Here) z st) (at Here) (calls st) c.vars b.own.vars
@@ -129,10 +129,10 @@ module _ (u : UnitCode) (labels : Labels) (h : Objects Name) (at : Way → Way) 
   to-there = goal-there (type_of c x) (OfVariable (at Here) (calls st) x) (OwnOf (top_zone (at Here) z st)) refl refl
 
   made-name : made name ≡ to
-  made-name = ap (λ t. cond t to (labels name)) (name_itself name)
+  made-name = ap (λ t. cond t to (labels name)) (name-itself name)
 
   more-name : more name ≡ Some (new_object u shape len)
-  more-name = ap (λ t. this_or t (new_object u shape len) (h name)) (name_itself name)
+  more-name = ap (λ t. this_or t (new_object u shape len) (h name)) (name-itself name)
 
   -- a value fits a variable after the turn
   abbrev Fits : ℕ → Ty → Value Name → Type 0
@@ -158,8 +158,8 @@ module _ (u : UnitCode) (labels : Labels) (h : Objects Name) (at : Way → Way) 
         where
           pick : ((n ≡ x) × (Some found ≡ Some d)) ⊎ ((n ≡ x → ⊥) × (slice_get b.own.vars n ≡ Some (Some d))) → Fits n t d
           pick (inl q) =
-              let same : type.0 ≡ t = some_inj (sym type.1 ∙ ap (slice_get c.vars) (sym q.0) ∙ here) in
-              subst (λ (m : ℕ). Fits m t d) (sym q.0) (subst (λ (s : Ty). Fits x s d) same (subst (λ (e : Value Name). Fits x type.0 e) (some_inj q.1) new-fits))
+              let same : type.0 ≡ t = some-inj (sym type.1 ∙ ap (slice_get c.vars) (sym q.0) ∙ here) in
+              subst (λ (m : ℕ). Fits m t d) (sym q.0) (subst (λ (s : Ty). Fits x s d) same (subst (λ (e : Value Name). Fits x type.0 e) (some-inj q.1) new-fits))
           pick (inr q) = variable-more u labels made h more made-keeps (top_zone (at Here) z st) (at Here) (calls st) n t d (fit.each n t d here q.1)
 
   stack-fit : stack_fits u made more (at Here) z b.own.routine st ≡ true

@@ -26,7 +26,7 @@ use Rattle.perm_meaning.specs.Names.{Name, same_name}
 use Rattle.perm_meaning.specs.Objects.{Object, Objects, put}
 use Rattle.perm_meaning.specs.Machine.{Frame, Way, Here, On, done}
 use Rattle.perm_meaning.specs.NamedHeap.{Held, Heap, Own, Branch, stored}
-use Rattle.perm_meaning.proofs.SameName.{eq_itself, eq_true}
+use Rattle.perm_meaning.proofs.SameName.{eq-itself, eq-true}
 use Rattle.perm_core.specs.Core.{core}
 use Rattle.perm_core.specs.Regions.{Zone, Region, OwnOf, OfVariable, OfField, Labels, is_absent, var_may_lead, field_may_lead, calls, zones, top_zone}
 use Rattle.perm_core.specs.Picture.{context_if, context_of, has_shape, value_fits, variables_fit, stack_fits, tree_fits, class_fits, values_fit, object_fits, valued, hidden_above, context_above, RestGoes, stack_hidden}
@@ -63,7 +63,7 @@ pub record StoreTypes (classes : List (List Ty)) (receiver : Option Ty) (f : ℕ
 
 -- so it is of an allowed store
 pub store-types : (c : Context) (y f : ℕ) (a : Argument) (G : Vars) → IsAllowed c (Simple (StoreField y f a)) G → StoreTypes c.classes (type_of c y) f
-store-types c y f a G allowed = of_type (get-some c.vars y (part-known c (Simple (StoreField y f a)) G allowed y (or_left (nat_eq y y) (any_in_argument (nat_eq y) a) (eq_itself y))))
+store-types c y f a G allowed = of_type (get-some c.vars y (part-known c (Simple (StoreField y f a)) G allowed y (or_left (nat_eq y y) (any_in_argument (nat_eq y) a) (eq-itself y))))
   where
     lacks : lacks_field c y f ≡ false
     lacks = (or_parts (any_in_part (λ x. is_none (type_of c x)) (Simple (StoreField y f a))) (lacks_field c y f) (applies-none c (Simple (StoreField y f a)) G allowed UnknownName)).1
@@ -199,7 +199,7 @@ module _ (u : UnitCode) (labels : Labels) (heap : Heap) (at : Way → Way) (z : 
     where
       stands : (a : Argument) (x : ℕ) → a ≡ Consumed x → mentions (StoreField y f a) x ≡ true
       stands (Expression e) x q = absurd (let no : ⊥ = cc q in no)
-      stands (Consumed n) x q = let same : n ≡ x = cc q in second (nat_eq x y) (nat_eq x n) (ap (nat_eq x) same ∙ eq_itself x)
+      stands (Consumed n) x q = let same : n ≡ x = cc q in second (nat_eq x y) (nat_eq x n) (ap (nat_eq x) same ∙ eq-itself x)
         where
           second : (p q : Bool) → q ≡ true → (p || q) ≡ true
           second true q e = refl
@@ -236,7 +236,7 @@ module _ (u : UnitCode) (labels : Labels) (heap : Heap) (at : Way → Way) (z : 
       go : (s : Shape) → same_shape s (Class ts.k) ≡ true → values_fit u placed more r s o.values ≡ true → values_fit u placed more r s (slice_set o.values f comes.0) ≡ true
       go Array q e = absurd (let no : ⊥ = cc q in no)
       go (Class l) q e =
-          in_class (slice_get u.classes l) (ap (λ (n : ℕ). field_among (slice_get u.classes n) f) (eq_true l ts.k q) ∙ (ap (λ (cs : List (List Ty)). field_among (slice_get cs ts.k) f) (sym (unit-classes u b.own.routine)) ∙ ts.field)) e
+          in_class (slice_get u.classes l) (ap (λ (n : ℕ). field_among (slice_get u.classes n) f) (eq-true l ts.k q) ∙ (ap (λ (cs : List (List Ty)). field_among (slice_get cs ts.k) f) (sym (unit-classes u b.own.routine)) ∙ ts.field)) e
 
   -- the branch that goes on fits
   pub store-fits : (l : Own) (t : ℕ) → l.vars ≡ ws → l.routine ≡ b.own.routine → tree_fits u placed (stored v r f heap).objects at z (done (core u) b t (On l rest st)) ≡ true

@@ -29,8 +29,8 @@ use Rattle.perm_meaning.specs.Effects.{Take}
 use Rattle.perm_meaning.specs.Machine.{Frame, Way, Here, On, done}
 use Rattle.perm_meaning.specs.NamedHeap.{Held, Own, Branch, found}
 use Rattle.perm_meaning.specs.Steps.{Found}
-use Rattle.perm_meaning.proofs.Leads.{some_inj}
-use Rattle.perm_meaning.proofs.SameName.{together, name_true}
+use Rattle.perm_meaning.proofs.Leads.{some-inj}
+use Rattle.perm_meaning.proofs.SameName.{together, name-true}
 use Rattle.perm_core.specs.Core.{core}
 use Rattle.perm_core.specs.Regions.{Zone, Region, Absent, Frozen, OwnOf, OfVariable, OfField, Loose, Labels, same_region, is_absent, is_frozen, var_may_lead, field_may_lead, calls, top_zone}
 use Rattle.perm_core.specs.Picture.{context_of, has_shape, value_fits, variables_fit, stack_fits, tree_fits, class_fits, values_fit, object_fits, valued, context_above, RestGoes}
@@ -266,7 +266,7 @@ module _ (u : UnitCode) (labels : Labels) (h : Objects Name) (at : Way → Way) 
 
           pick : ((g ≡ f) × (Null ≡ v)) ⊎ ((g ≡ f → ⊥) × (slice_get o.object.values g ≡ Some v)) → Fits u after objects-taken r g t v
           pick (inl q) =
-              let same : Ref Isolated ts.l ≡ t = some_inj (sym in-class ∙ ap (slice_get o.types) (sym q.0) ∙ is) in
+              let same : Ref Isolated ts.l ≡ t = some-inj (sym in-class ∙ ap (slice_get o.types) (sym q.0) ∙ is) in
               subst (λ (a : Value Name). Fits u after objects-taken r g t a) q.1 (subst (λ (s : Ty). Fits u after objects-taken r g s Null) same refl)
           pick (inr q) = field-after r g t v (ap (λ b. b && same_name r r) (differs g f q.0)) (o.fields.each g t v is q.1)
 
@@ -278,5 +278,5 @@ module _ (u : UnitCode) (labels : Labels) (h : Objects Name) (at : Way → Way) 
   take-field-objects n = subst (λ (ls : Labels). object_fits u ls objects-taken n (objects-taken n) ≡ true) (sym taken-so) (by_name (same_name n r) refl)
     where
       by_name : (t : Bool) → same_name n r ≡ t → object_fits u after objects-taken n (with_field_if t f Null (h n)) ≡ true
-      by_name true e = subst (λ (m : Name). object_fits u after objects-taken m (with_field f Null (h m)) ≡ true) (sym (name_true n r e)) own-object
+      by_name true e = subst (λ (m : Name). object_fits u after objects-taken m (with_field f Null (h m)) ≡ true) (sym (name-true n r e)) own-object
       by_name false e = other-object n e (h n) (objects n)

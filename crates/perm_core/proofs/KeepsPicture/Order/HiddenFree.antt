@@ -10,7 +10,7 @@ use Rattle.perm_tree.specs.Vars.{Vars, those}
 use Rattle.perm_rules.specs.Parts.{Context, Simple, Condition, Given, Returned}
 use Rattle.perm_rules.specs.Goes.{Goes, hiding}
 use Rattle.perm_rules.proofs.PartLaws.{applies-none}
-use Rattle.perm_meaning.proofs.SameName.{eq_true}
+use Rattle.perm_meaning.proofs.SameName.{eq-true}
 use Rattle.perm_core.proofs.KeepsPicture.Calls.CallEnds.{any-right}
 use Rattle.perm_core.proofs.KeepsPicture.Order.FewerLive.{IsFree}
 
@@ -24,7 +24,7 @@ module _ (t : Vars) (y : ℕ) where
       go (inr q) = g (or_parts a b e).1 q
 
   pub just-none : (x : ℕ) → t x ≡ false → nat_eq y x ≡ true → t y ≡ false
-  just-none x e m = ap t (eq_true y x m) ∙ e
+  just-none x e m = ap t (eq-true y x m) ∙ e
 
   term-none : (e : Term) → any_in_term t e ≡ false → term_mentions e y ≡ true → t y ≡ false
   term-none (LongLit n) e m = absurd (let f : false ≡ true = m in cc)

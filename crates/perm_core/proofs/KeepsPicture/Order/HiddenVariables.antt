@@ -19,8 +19,8 @@ use Rattle.perm_meaning.specs.Custody.{Moves, from_either, only, while_called, i
 use Rattle.perm_meaning.specs.Machine.{Frame, OpenBlock, OpenRecover, OpenCall, Close, Returning, Failing, Blocks, Leaf, Fork, Way, Final, Fine, GaveBack, Failed, over, stage_by_turns, stage_by_code, stage_from, final, Did, On, Splits, settled, done, resumed, join_of}
 use Rattle.perm_meaning.specs.NamedHeap.{Held, Op, Own, Branch, Task}
 use Rattle.perm_meaning.specs.Turns.{blocks, lent_back}
-use Rattle.perm_meaning.proofs.Leads.{none_some}
-use Rattle.perm_meaning.proofs.SameName.{together, eq_itself, eq_true}
+use Rattle.perm_meaning.proofs.Leads.{none-some}
+use Rattle.perm_meaning.proofs.SameName.{together, eq-itself, eq-true}
 use Rattle.perm_core.specs.Core.{core}
 use Rattle.perm_core.specs.Picture.{context_of, valued, hidden_above, just_lent, just_taken, context_above, RestGoes, TreeGoes, stack_right, tree_right, none_valued, only_valued, stack_hidden, branch_hidden, tree_hidden}
 use Rattle.perm_core.proofs.Commute.Conflicts.{unfailed}
@@ -38,7 +38,7 @@ none-all U [] all = refl
 none-all U (x ∷ xs) all = by_test (U x) refl (none-all U xs (λ y e. all y (or_right (nat_eq y x) (those xs y) e)))
   where
     here : U x ≡ false
-    here = all x (or_left (nat_eq x x) (those xs x) (eq_itself x))
+    here = all x (or_left (nat_eq x x) (those xs x) (eq-itself x))
 
     by_test : (b : Bool) → U x ≡ b → has_none U xs ≡ true → not (U x || list_any U xs) ≡ true
     by_test true q later = absurd (let no : true ≡ false = sym q ∙ here in let z : ⊥ = cc no in z)
@@ -53,7 +53,7 @@ all-none U (y ∷ xs) x e i = pick (or_cases (nat_eq x y) (those xs x) i) (split
     split false b e = (refl, e)
 
     pick : (nat_eq x y ≡ true) ⊎ (those xs x ≡ true) → (U y ≡ false) × (has_none U xs ≡ true) → (has_none U xs ≡ true → those xs x ≡ true → U x ≡ false) → U x ≡ false
-    pick (inl q) (u, later) rec = ap U (eq_true x y q) ∙ u
+    pick (inl q) (u, later) rec = ap U (eq-true x y q) ∙ u
     pick (inr q) (u, later) rec = rec later q
 
 -- what is within a set that holds nothing of a list holds nothing of it
@@ -285,7 +285,7 @@ module _ (u : UnitCode) where
       target y m = go (nat_eq y x) refl
         where
           go : (b : Bool) → nat_eq y x ≡ b → b ≡ false
-          go true q = absurd (let no : true ≡ false = sym m ∙ ap (those h) (eq_true y x q) ∙ target-shown below b.own.routine at x own hides body rest st (valued b.own.vars) H g in let z : ⊥ = cc no in z)
+          go true q = absurd (let no : true ≡ false = sym m ∙ ap (those h) (eq-true y x q) ∙ target-shown below b.own.routine at x own hides body rest st (valued b.own.vars) H g in let z : ⊥ = cc no in z)
           go false q = refl
   turn-hidden below b t w _ _ _ _ H here e f r g (giving at y x own hides saved rest st v l had q goes) =
       on-hidden below b l t new rest st goes.vars (none-within (plus (plus (valued saved) (valued b.own.vars)) (just x)) (valued new) h less nothing) parts.1.1
@@ -355,7 +355,7 @@ module _ (u : UnitCode) where
   -- ---------- joins ----------
   -- a side that went well has its variables, and nothing below it
   fine-leaf : (h : List ℕ) (t : Task) (vs : List Held) (n : ℕ) (p : List ℤ) → final t ≡ Some (Fine vs n p) → tree_hidden h t ≡ true → none_valued h vs ≡ true
-  fine-leaf h (Fork b q l r) vs n p e f = none_some e
+  fine-leaf h (Fork b q l r) vs n p e f = none-some e
   fine-leaf h (Leaf b) vs n p e f = by_close b.close refl
     where
       top : none_valued (hidden_above h b.stack) b.own.vars ≡ true
@@ -363,7 +363,7 @@ module _ (u : UnitCode) where
 
       unturned : (t : ℕ) → over (stage_by_turns t b.own) ≡ Some (Fine vs n p) → none_valued h vs ≡ true
       unturned zero e = absurd (let no : ⊥ = cc e in no)
-      unturned (suc t) e = none_some e
+      unturned (suc t) e = none-some e
 
       by_code : (c : Code) (st : List (Frame Held)) → b.stack ≡ st → over (stage_by_code c st b.turns b.own) ≡ Some (Fine vs n p) → none_valued h vs ≡ true
       by_code End [] q e = let same : b.own.vars ≡ vs = cc e in subst (λ (ws : List Held). none_valued h ws ≡ true) same (subst (λ (st : List (Frame Held)). none_valued (hidden_above h st) b.own.vars ≡ true) q top)

@@ -15,7 +15,7 @@ use Rattle.perm_meaning.specs.Expressions.{tagged, filled, held, then_unary, the
 use Rattle.perm_meaning.specs.Custody.{from_either_at, from_either, only_at, only}
 use Rattle.perm_meaning.specs.NamedHeap.{Held, Op, Own}
 use Rattle.perm_meaning.specs.Effects.{Load, Take, Make}
-use Rattle.perm_meaning.proofs.SameName.{together, eq_itself, eq_true}
+use Rattle.perm_meaning.proofs.SameName.{together, eq-itself, eq-true}
 use Rattle.perm_core.specs.Picture.{has_value, valued}
 use Rattle.perm_core.proofs.Commute.TwoOperations.{get-beside}
 use Rattle.perm_core.proofs.KeepsPicture.Order.ValuedLists.{has-of, valued-of}
@@ -38,13 +38,13 @@ other-has : (vs : List Held) (x : ℕ) (v : Held) (y : ℕ) → nat_eq y x ≡ f
 other-has vs x v y off e = ap has_value (get-beside vs x y v (λ same. clash (sym same))) ∙ e
   where
     clash : y ≡ x → ⊥
-    clash same = let z : true ≡ false = sym (eq_itself x) ∙ ap (λ n. nat_eq n x) (sym same) ∙ off in let no : ⊥ = cc z in no
+    clash same = let z : true ≡ false = sym (eq-itself x) ∙ ap (λ n. nat_eq n x) (sym same) ∙ off in let no : ⊥ = cc z in no
 
 pub assign-has : (vs : List Held) (x : ℕ) (v : Held) (a : Value Name) → x < length vs → v ≡ Some a → IsWithin (plus (valued vs) (just x)) (valued (assign vs x v))
 assign-has vs x v a less is y e = go (nat_eq y x) refl e
   where
     go : (b : Bool) → nat_eq y x ≡ b → plus (valued vs) (just x) y ≡ true → valued (assign vs x v) y ≡ true
-    go true q e = subst (λ z. valued (assign vs x v) z ≡ true) (sym (eq_true y x q)) (valued-of (assign vs x v) x a (set-there vs x v less ∙ ap (λ z. Some z) is))
+    go true q e = subst (λ z. valued (assign vs x v) z ≡ true) (sym (eq-true y x q)) (valued-of (assign vs x v) x a (set-there vs x v less ∙ ap (λ z. Some z) is))
     go false q e = other-has vs x v y q (left (or_cases (valued vs y) (nat_eq y x) e))
       where
         left : (valued vs y ≡ true) ⊎ (nat_eq y x ≡ true) → valued vs y ≡ true
@@ -211,17 +211,17 @@ pub acts-has : (u : UnitCode) (l : Own) (w : Held) (i : Instruction) (o : Op) (v
 acts-has u l w _ _ _ (turns.declares x) answer there = clear-has l.vars x
 acts-has u l w _ _ _ (turns.assigns x a v ws one) answer there =
     let has = one-has l.vars ws a v one in
-    let less : x < length l.vars = there x (eq_itself x) in
+    let less : x < length l.vars = there x (eq-itself x) in
     let same : length ws ≡ length l.vars = one-length l.vars ws a v one in
     λ y e. assign-has ws x v has.0.0 (omega (arith, less, same)) has.0.1 y (widen y (or_cases (minus (valued l.vars) (argument_consumes a) y) (just x y) e))
   where
     widen : (y : ℕ) → (minus (valued l.vars) (argument_consumes a) y ≡ true) ⊎ (just x y ≡ true) → plus (valued ws) (just x) y ≡ true
     widen y (inl e) = or_left (valued ws y) (just x y) ((one-has l.vars ws a v one).1 y e)
     widen y (inr e) = or_right (valued ws y) (just x y) e
-acts-has u l w _ _ _ (loads x z f r n here) answer there = λ y e. assign-has l.vars x w answer.0 (there x (eq_itself x)) answer.1 y (less-left (valued l.vars) (just x) y e)
-acts-has u l w _ _ _ (measures x z r n here) answer there = λ y e. assign-has l.vars x _ _ (there x (eq_itself x)) refl y (less-left (valued l.vars) (just x) y e)
-acts-has u l w _ _ _ (reads x z i r n f here) answer there = λ y e. assign-has l.vars x w answer.0 (there x (eq_itself x)) answer.1 y (less-left (valued l.vars) (just x) y e)
-acts-has u l w _ _ _ (takes x z f r n here) answer there = λ y e. assign-has l.vars x w answer.0 (there x (eq_itself x)) answer.1 y (less-left (valued l.vars) (just x) y e)
+acts-has u l w _ _ _ (loads x z f r n here) answer there = λ y e. assign-has l.vars x w answer.0 (there x (eq-itself x)) answer.1 y (less-left (valued l.vars) (just x) y e)
+acts-has u l w _ _ _ (measures x z r n here) answer there = λ y e. assign-has l.vars x _ _ (there x (eq-itself x)) refl y (less-left (valued l.vars) (just x) y e)
+acts-has u l w _ _ _ (reads x z i r n f here) answer there = λ y e. assign-has l.vars x w answer.0 (there x (eq-itself x)) answer.1 y (less-left (valued l.vars) (just x) y e)
+acts-has u l w _ _ _ (takes x z f r n here) answer there = λ y e. assign-has l.vars x w answer.0 (there x (eq-itself x)) answer.1 y (less-left (valued l.vars) (just x) y e)
 acts-has u l w _ _ _ (stores z f a v ws r n one here) answer there = λ y e. (one-has l.vars ws a v one).1 y (right-none (minus (valued l.vars) (argument_consumes a) y) e)
 acts-has u l w _ _ _ (writes z i t v k r n f q p here) answer there = λ y e. less-none (valued l.vars) y (right-none (minus (valued l.vars) none y) e)
 acts-has u l w _ _ _ (prints t) answer there = λ y e. less-none (valued l.vars) y (right-none (minus (valued l.vars) none y) e)

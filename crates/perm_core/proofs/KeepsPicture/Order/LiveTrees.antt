@@ -23,8 +23,8 @@ use Rattle.perm_meaning.specs.Custody.{Moves, only, while_called, lent_by, menti
 use Rattle.perm_meaning.specs.Effects.{first_vars}
 use Rattle.perm_meaning.specs.Machine.{Frame, OpenBlock, OpenRecover, OpenCall, Close, Returning, Failing, Blocks, Leaf, Fork, Way, Here, GoL, GoR, Final, Fine, GaveBack, Failed, Stage, Over, Due, over, stage_by_turns, stage_by_code, stage_from, stage, final, Did, Splits, done, resumed, join_of}
 use Rattle.perm_meaning.specs.NamedHeap.{Held, Op, Own, Branch, Task}
-use Rattle.perm_meaning.proofs.Leads.{none_some}
-use Rattle.perm_meaning.proofs.SameName.{eq_itself, eq_true}
+use Rattle.perm_meaning.proofs.Leads.{none-some}
+use Rattle.perm_meaning.proofs.SameName.{eq-itself, eq-true}
 use Rattle.perm_core.specs.Core.{core}
 use Rattle.perm_core.specs.Endings.{Ending, ByNothing, is_by_return, is_open, stack_ends, is_settled, branch_ends, tree_ends}
 use Rattle.perm_core.specs.Marked.{calls_right}
@@ -108,8 +108,8 @@ module _ (u : UnitCode) (labels : Labels) (h : Objects Name) where
           go false b e = e
 
       made : (i : Instruction) (shape : Shape) (n y : ℕ) → Creates u b.own i shape n y → ((y : ℕ) → assigns i y ≡ true → y < length b.own.vars) → IsWithin (after i (valued b.own.vars)) (valued (assign b.own.vars y x))
-      made _ _ _ _ (object y c ts q) there z e = assign-has b.own.vars y x answer.0 (there y (eq_itself y)) answer.1 z (drop (valued b.own.vars) (just y) z e)
-      made _ _ _ _ (array y t n) there z e = assign-has b.own.vars y x answer.0 (there y (eq_itself y)) answer.1 z (drop (valued b.own.vars) (just y) z e)
+      made _ _ _ _ (object y c ts q) there z e = assign-has b.own.vars y x answer.0 (there y (eq-itself y)) answer.1 z (drop (valued b.own.vars) (just y) z e)
+      made _ _ _ _ (array y t n) there z e = assign-has b.own.vars y x answer.0 (there y (eq-itself y)) answer.1 z (drop (valued b.own.vars) (just y) z e)
   turn-goes accepted z w below k b t x _ _ _ _ H here answer vars stack ending_k hid hidden right goes (beginning at rest st into tie consumed y m args r this found vs saved lent l c caller is code q1 q2 q3 on) =
       let f = call-goes u accepted below b.own.routine at into tie consumed y m args rest st b.own r this found vs H is goes in
       let frame : Frame Held = OpenCall tie into y (while_called tagged Moves tie y vs) (lent_by Moves tie this) b.own.routine rest in
@@ -208,7 +208,7 @@ module _ (u : UnitCode) (labels : Labels) (h : Objects Name) where
     where
       unturned : {A : Type 0} (t : ℕ) → over (stage_by_turns t b.own) ≡ Some (Fine vs n p) → A
       unturned zero e = absurd (let no : ⊥ = cc e in no)
-      unturned (suc t) e = none_some e
+      unturned (suc t) e = none-some e
 
       by_code : b.close ≡ None → (c : Code) (st : List (Frame Held)) → b.code ≡ c → b.stack ≡ st → over (stage_by_code c st b.turns b.own) ≡ Some (Fine vs n p) → FineLeaf b vs
       by_code k End [] q r e = record { close = k; code = q; stack = r; vars = let z : b.own.vars ≡ vs = cc e in z }
@@ -227,7 +227,7 @@ module _ (u : UnitCode) (labels : Labels) (h : Objects Name) where
       by_close (Some (Failing x)) q e = absurd (let no : ⊥ = cc e in no)
 
   fine-goes : (hid : List ℕ) (t : Task) (vs : List Held) (n : ℕ) (p : List ℤ) (L : Vars) → final t ≡ Some (Fine vs n p) → TreeGoes u hid t L → L ≡ valued vs
-  fine-goes hid (Fork b q l r) vs n p L e goes = none_some e
+  fine-goes hid (Fork b q l r) vs n p L e goes = none-some e
   fine-goes hid (Leaf b) vs n p L e (inl failed) = absurd (unfine (stage b) e failed)
     where
       unfine : (s : Stage Held) → over s ≡ Some (Fine vs n p) → HasFailed u s → ⊥
@@ -240,22 +240,22 @@ module _ (u : UnitCode) (labels : Labels) (h : Objects Name) where
       subst (λ (c : Code). RestGoes u hid b.own.routine c [] (valued b.own.vars) L) is.code (subst (λ (st : List (Frame Held)). RestGoes u hid b.own.routine b.code st (valued b.own.vars) L) is.stack goes) ∙ ap valued is.vars
 
   fine-length : (at : Way → Way) (z : Zone) (m : ℕ) (t : Task) (vs : List Held) (n : ℕ) (p : List ℤ) → final t ≡ Some (Fine vs n p) → tree_fits u labels h at z t ≡ true → stands_in m t ≡ true → length (context_of u m).vars ≡ length vs
-  fine-length at z m (Fork b q l r) vs n p e fit stand = none_some e
+  fine-length at z m (Fork b q l r) vs n p e fit stand = none-some e
   fine-length at z m (Leaf b) vs n p e fit stand =
       let is = fine-leaf b vs n p e in
       let held : Bool = variables_fit u labels h (top_zone (at Here) z b.stack) (at Here) (calls b.stack) 0 (context_of u b.own.routine).vars b.own.vars in
       let vars = and_parts held (stack_fits u labels h (at Here) z b.own.routine b.stack) (sym (ap (λ c. has_end u labels h c || (held && stack_fits u labels h (at Here) z b.own.routine b.stack)) is.close) ∙ fit) in
-      let routine : b.own.routine ≡ m = eq_true b.own.routine m (ap (λ (st : List (Frame Held)). nat_eq (lowest b.own.routine st) m) (sym is.stack) ∙ (sym (ap (λ c. not (is_open c) || nat_eq (lowest b.own.routine b.stack) m) is.close) ∙ stand)) in
+      let routine : b.own.routine ≡ m = eq-true b.own.routine m (ap (λ (st : List (Frame Held)). nat_eq (lowest b.own.routine st) m) (sym is.stack) ∙ (sym (ap (λ c. not (is_open c) || nat_eq (lowest b.own.routine b.stack) m) is.close) ∙ stand)) in
       ap (λ n. length (context_of u n).vars) (sym routine) ∙ lengths (top_zone (at Here) z b.stack) (at Here) (calls b.stack) (context_of u b.own.routine).vars b.own.vars vars.0 ∙ ap length is.vars
 
   -- no side gives back a value
   pub gave-none : (t : Task) (v : Held) (n : ℕ) (p : List ℤ) → final t ≡ Some (GaveBack v n p) → tree_ends ByNothing t ≡ true → ⊥
-  gave-none (Fork b q l r) v n p e ends = none_some e
+  gave-none (Fork b q l r) v n p e ends = none-some e
   gave-none (Leaf b) v n p e ends = by_close b.close e ends
     where
       unturned : (t : ℕ) → over (stage_by_turns t b.own) ≡ Some (GaveBack v n p) → ⊥
       unturned zero e = let no : ⊥ = cc e in no
-      unturned (suc t) e = none_some e
+      unturned (suc t) e = none-some e
 
       by_code : (c : Code) (st : List (Frame Held)) → over (stage_by_code c st b.turns b.own) ≡ Some (GaveBack v n p) → ⊥
       by_code End [] e = let no : ⊥ = cc e in no

@@ -29,7 +29,7 @@ use Rattle.perm_meaning.specs.Effects.{first_vars}
 use Rattle.perm_meaning.specs.Machine.{Frame, OpenRecover, OpenCall, Blocks, Splits, done}
 use Rattle.perm_meaning.specs.NamedHeap.{Held, Own, Branch}
 use Rattle.perm_meaning.specs.Turns.{blocks, lent_back}
-use Rattle.perm_meaning.proofs.SameName.{together, eq_itself, eq_true}
+use Rattle.perm_meaning.proofs.SameName.{together, eq-itself, eq-true}
 use Rattle.perm_core.specs.Core.{core}
 use Rattle.perm_core.specs.Picture.{context_if, context_of, valued, hidden_above, just_lent, just_taken, live_after, context_above, none_valued, only_valued, RestGoes, live_joined, TreeGoes}
 use Rattle.perm_core.proofs.OpeningPicture.{derived}
@@ -128,7 +128,7 @@ module _ (u : UnitCode) where
           pick (inr q) = or_right (S x) (plus L T x) (or_right (L x) (T x) (taken-same into x q))
 
       even : length found ≡ length r.params
-      even = eq_true (length found) (length r.params) is.even
+      even = eq-true (length found) (length r.params) is.even
 
       entered : IsWithin (first_live r) (valued (first_vars tagged r this found))
       entered x e = first-has this (Reference is.p is.n) found _ is.receiver has.0 x (live-first r (length found) x even e)
@@ -260,7 +260,7 @@ module _ (u : UnitCode) where
 
       there : x < length either
       there =
-          let known : x < length (context_of u m).vars = part-known (context_above u below m (OpenRecover own hides saved rest ∷ st)) (Given y x) U goes.1.0 x (or_right (nat_eq x y) (nat_eq x x) (eq_itself x)) in
+          let known : x < length (context_of u m).vars = part-known (context_above u below m (OpenRecover own hides saved rest ∷ st)) (Given y x) U goes.1.0 x (or_right (nat_eq x y) (nat_eq x x) (eq-itself x)) in
           let l = either-length (those hides) saved ws lengths in
           omega (arith, known, l, even_saved)
 

@@ -8,7 +8,7 @@ use Rattle.perm_meaning.specs.Effects.{Tick, Load, Store, Take, Make}
 use Rattle.perm_meaning.specs.Machine.{Frame, OpenBlock, OpenRecover, OpenCall, Leaf, Fork, Way, Final, Fine, GaveBack, Failed, Did, settled, done, resumed, join_of}
 use Rattle.perm_meaning.specs.NamedHeap.{Held, Heap, Op, Own, Branch, Task, has_room, stored, allocated, after}
 use Rattle.perm_meaning.specs.Values.{Value, Null}
-use Rattle.perm_meaning.proofs.SameName.{name_true}
+use Rattle.perm_meaning.proofs.SameName.{name-true}
 use Rattle.perm_core.specs.Core.{core}
 use Rattle.perm_core.specs.Picture.{IsBelow, MayGive, next, later, MayBeGiven, path_of, PathsFit}
 use Rattle.perm_core.proofs.Commute.NamesToCome.{below-itself, below-parent, below-length, one-side, left-not-right}
@@ -181,7 +181,7 @@ after-none u fits (Take r f) h n e apart = stored-none (Some Null) r f h n e
 after-none u fits (Make by shape k) h n e apart = by_room (has_room fits k h) (fits (size k)) refl
   where
     by_name : (t : Bool) → same_name n (next_name by) ≡ t → has_room fits k h ≡ true → this_or t (new_object u shape k) (h.objects n) ≡ None
-    by_name true q room = absurd (apart by shape k refl room (sym (name_true n (next_name by) q)))
+    by_name true q room = absurd (apart by shape k refl room (sym (name-true n (next_name by) q)))
     by_name false q room = e
 
     by_room : (a b : Bool) → has_room fits k h ≡ a → (allocated a b u by shape k h).objects n ≡ None

@@ -15,7 +15,7 @@ use Rattle.perm_meaning.specs.Custody.{only, in_neither, back_l, back_r}
 use Rattle.perm_meaning.specs.Machine.{Frame, OpenBlock, OpenRecover, OpenCall, Blocks, Leaf, On, Splits, settled, done}
 use Rattle.perm_meaning.specs.NamedHeap.{Held, Own, Branch}
 use Rattle.perm_meaning.specs.Turns.{blocks}
-use Rattle.perm_meaning.proofs.SameName.{together, eq_itself, eq_true}
+use Rattle.perm_meaning.proofs.SameName.{together, eq-itself, eq-true}
 use Rattle.perm_core.specs.Core.{core}
 use Rattle.perm_core.specs.Marked.{call_right, calls_right}
 use Rattle.perm_core.specs.Picture.{context_of, valued, rest_of, routine_below, just_lent, just_taken, grown, recover_right, code_right, stack_right, tree_right}
@@ -56,7 +56,7 @@ none-own U a own e = go own (λ x q. q) e
     go (x ∷ xs) all e = by_tests (U x) (N x) refl refl e (go xs (λ y q. all y (or_right (nat_eq y x) (those xs y) q)))
       where
         here : those own x ≡ true
-        here = all x (or_left (nat_eq x x) (those xs x) (eq_itself x))
+        here = all x (or_left (nat_eq x x) (those xs x) (eq-itself x))
 
         by_tests : (p q : Bool) → U x ≡ p → N x ≡ q → not (U x || list_any U xs) ≡ true → (has_none U xs ≡ true → has_none (plus U N) xs ≡ true) → not ((U x || N x) || list_any (plus U N) xs) ≡ true
         by_tests true q i j e later = absurd (let no : false ≡ true = sym (ap (λ t. not (t || list_any U xs)) i) ∙ e in let z : ⊥ = cc no in z)
@@ -66,7 +66,7 @@ none-own U a own e = go own (λ x q. q) e
 -- the variable to which a code gives is the one
 pub given-one : (c : Code) (x y : ℕ) → given c x ≡ true → given c y ≡ true → just x y ≡ true
 given-one End x y e f = absurd (let no : ⊥ = cc e in no)
-given-one (Give at w z) x y e f = let p : x ≡ z = eq_true x z e in let q : y ≡ z = eq_true y z f in subst (λ n. nat_eq n x ≡ true) (sym (q ∙ sym p)) (eq_itself x)
+given-one (Give at w z) x y e f = let p : x ≡ z = eq-true x z e in let q : y ≡ z = eq-true y z f in subst (λ n. nat_eq n x ≡ true) (sym (q ∙ sym p)) (eq-itself x)
 given-one (Return at a) x y e f = absurd (let no : ⊥ = cc e in no)
 given-one (Do at i rest) x y e f = given-one rest x y e f
 given-one (If at t own1 a own2 b rest) x y e f = given-one rest x y e f

@@ -17,7 +17,7 @@ use Rattle.perm_meaning.specs.Effects.{first_vars}
 use Rattle.perm_meaning.specs.Machine.{Frame, OpenBlock, OpenRecover, OpenCall, Blocks, Way, Final, Fine, GaveBack, Failed, Did, Splits, done, resumed, join_of}
 use Rattle.perm_meaning.specs.NamedHeap.{Held, Op, Own, Branch, Task}
 use Rattle.perm_meaning.specs.Turns.{lent_back}
-use Rattle.perm_meaning.proofs.SameName.{together, eq_true}
+use Rattle.perm_meaning.proofs.SameName.{together, eq-true}
 use Rattle.perm_core.specs.Core.{core}
 use Rattle.perm_core.specs.Marked.{calls_right}
 use Rattle.perm_core.specs.Picture.{context_if, context_of, valued, just_lent, just_taken, grown, code_right, stack_right, tree_right}
@@ -64,7 +64,7 @@ module _ (u : UnitCode) where
         G = plus (valued saved) (plus (just_lent lent y) (just_taken into))
 
         even : length found ≡ length r.params
-        even = eq_true (length found) (length r.params) is.even
+        even = eq-true (length found) (length r.params) is.even
 
         entered : IsWithin V (first_live r)
         entered x e =

@@ -7,7 +7,7 @@ use Rattle.perm_tree.specs.Code.{Code, End, Give, Return, Do, If, While, Par, Re
 use Rattle.perm_tree.specs.Mentions.{term_mentions, argument_mentions, mentions, mentioned, block_mentions}
 use Rattle.perm_tree.specs.Vars.{Vars, just, those, plus, minus, IsWithin}
 use Rattle.perm_rules.specs.Parts.{Context}
-use Rattle.perm_meaning.proofs.SameName.{together, eq_true, eq_itself}
+use Rattle.perm_meaning.proofs.SameName.{together, eq-true, eq-itself}
 use Rattle.perm_rules.specs.Scoping.{given, has_none, hides_tied, is_scoped}
 use Rattle.perm_core.proofs.KeepsPicture.Order.FewerLive.{IsFree}
 
@@ -56,7 +56,7 @@ none-listed U own y none u = go (those own y) refl
     held (x ∷ xs) e = pick (held xs) (or_cases (nat_eq y x) (list_any (nat_eq y) xs) e)
       where
         pick : (list_any (nat_eq y) xs ≡ true → list_any U xs ≡ true) → (nat_eq y x ≡ true) ⊎ (list_any (nat_eq y) xs ≡ true) → (U x || list_any U xs) ≡ true
-        pick rec (inl q) = or_left (U x) (list_any U xs) (ap U (sym (eq_true y x q)) ∙ u)
+        pick rec (inl q) = or_left (U x) (list_any U xs) (ap U (sym (eq-true y x q)) ∙ u)
         pick rec (inr q) = or_right (U x) (list_any U xs) (rec q)
 
     go : (b : Bool) → those own y ≡ b → those own y ≡ false
@@ -72,7 +72,7 @@ keep U M y e = or_left (U y) (M y) e
 
 pub side-free : (c : Context) (a : Code) (U : Vars) → is_scoped c a U ≡ true → IsFree (minus U (mentioned a)) a
 side-free c End U e = tt
-side-free c (Give at w x) U e = stands-out U (plus (just w) (just x)) w (or_left (just w w) (just x w) (eq_itself w))
+side-free c (Give at w x) U e = stands-out U (plus (just w) (just x)) w (or_left (just w w) (just x w) (eq-itself w))
 side-free c (Return at r) U e = λ y m. stands-out U (argument_mentions r) y m
 side-free c (Do at i rest) U e =
     let M : Vars = plus (mentions i) (mentioned rest) in (

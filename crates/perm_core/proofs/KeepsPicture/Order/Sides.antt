@@ -6,7 +6,7 @@ use Rattle.perm_tree.specs.Code.{Code, End, Give, Return, Do, If, While, Par, Re
 use Rattle.perm_meaning.specs.Names.{Path, Mark}
 use Rattle.perm_meaning.specs.Machine.{Frame, OpenBlock, OpenRecover, OpenCall, Leaf, Way, Final, Fine, GaveBack, Failed, Did, On, Splits, Ends, Dies, settled, done, resumed, join_of}
 use Rattle.perm_meaning.specs.NamedHeap.{Held, Op, Own, Branch, Task}
-use Rattle.perm_meaning.proofs.SameName.{together, eq_itself, eq_true}
+use Rattle.perm_meaning.proofs.SameName.{together, eq-itself, eq-true}
 use Rattle.perm_core.specs.Core.{core}
 use Rattle.perm_core.specs.Endings.{is_open}
 use Rattle.perm_core.specs.Picture.{lowest, stands_in, sides_stand, path_of, PathsFit}
@@ -48,7 +48,7 @@ module _ (u : UnitCode) where
     pub paths : path_of t ≡ path
 
   on-stands : (m : ℕ) (b : Branch) (vs : List Held) (c : Code) (st : List (Frame Held)) → lowest b.own.routine st ≡ m → stands_in m (Leaf (settled (core u) b vs c st)) ≡ true
-  on-stands m b vs c st e = open_or (not (is_open (settled (core u) b vs c st).close)) (ap (λ n. nat_eq n m) (settled-lowest b vs c st ∙ e) ∙ eq_itself m)
+  on-stands m b vs c st e = open_or (not (is_open (settled (core u) b vs c st).close)) (ap (λ n. nat_eq n m) (settled-lowest b vs c st ∙ e) ∙ eq-itself m)
     where
       open_or : (a : Bool) {x : Bool} → x ≡ true → (a || x) ≡ true
       open_or true e = refl
@@ -74,7 +74,7 @@ module _ (u : UnitCode) where
   turn-keeps m b t w _ _ _ _ here low (right_block at x own1 a own2 a2 rest st) = on-keeps m b b.own t a2 (OpenBlock own2 rest ∷ st) low refl
   turn-keeps m b t w _ _ _ _ here low (into_loop at x own body rest st) = on-keeps m b b.own t body (OpenBlock own (While at x own body rest) ∷ st) low refl
   turn-keeps m b t w _ _ _ _ here low (out_of_loop at x own body rest st) = on-keeps m b b.own t rest st low refl
-  turn-keeps m b t w _ _ _ _ here low (parting at own1 a own2 a2 rest st p same) = record { stands = ap (λ n. nat_eq n m) (subst (λ (z : List (Frame Held)). lowest b.own.routine z ≡ m) here low) ∙ eq_itself m; paths = refl }
+  turn-keeps m b t w _ _ _ _ here low (parting at own1 a own2 a2 rest st p same) = record { stands = ap (λ n. nat_eq n m) (subst (λ (z : List (Frame Held)). lowest b.own.routine z ≡ m) here low) ∙ eq-itself m; paths = refl }
   turn-keeps m b t w _ _ _ _ here low (recovering at x own hides body rest st l saved goes q) = on-keeps m b l t body (OpenRecover own hides saved rest ∷ st) (ap (λ n. lowest n st) goes.routine ∙ low) (path-of-mark goes.mark)
   turn-keeps m b t w _ _ _ _ here low (giving at y x own hides saved rest st v l had q goes) = on-keeps m b l t rest st (ap (λ n. lowest n st) goes.routine ∙ low) (path-of-mark goes.mark)
   turn-keeps m b t w _ _ _ _ here low (returning at a tie into y saved lent caller rest st v l q goes) = on-keeps m b l t rest st (ap (λ n. lowest n st) goes.routine ∙ low) (path-of-mark goes.mark)
@@ -90,7 +90,7 @@ module _ (u : UnitCode) where
 
   -- a test of a number that holds
   same-number : (n m : ℕ) → nat_eq n m ≡ true → n ≡ m
-  same-number n m e = eq_true n m e
+  same-number n m e = eq-true n m e
 
   -- an event keeps both of the root
   pub root-keeps : (m : ℕ) (o : Op) (v : Option Held) (w : Way) (t after : Task) → stands_in m t ≡ true → EventAt u o v w t after → Keeps m (path_of t) after
@@ -113,7 +113,7 @@ module _ (u : UnitCode) where
   turn-sides b t (Ends v) = record { stand = refl; paths = tt }
   turn-sides b t (Dies e) = record { stand = refl; paths = tt }
   turn-sides b t (Splits p rest) =
-      let same : nat_eq b.own.routine b.own.routine ≡ true = eq_itself b.own.routine in
+      let same : nat_eq b.own.routine b.own.routine ≡ true = eq-itself b.own.routine in
       record {
         stand = together (nat_eq b.own.routine b.own.routine && nat_eq b.own.routine b.own.routine) true (together (nat_eq b.own.routine b.own.routine) (nat_eq b.own.routine b.own.routine) same same) refl;
         paths = (b.own.mark.pars, refl, refl, refl, tt, tt);

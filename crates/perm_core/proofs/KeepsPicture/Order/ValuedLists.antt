@@ -11,7 +11,7 @@ use Rattle.perm_meaning.specs.Expressions.{tagged, assign, assign_into, clear, c
 use Rattle.perm_meaning.specs.Custody.{Moves, from_either, only, while_called}
 use Rattle.perm_meaning.specs.NamedHeap.{Held, Op, Own}
 use Rattle.perm_meaning.specs.Turns.{lent_back}
-use Rattle.perm_meaning.proofs.SameName.{together, eq_itself}
+use Rattle.perm_meaning.proofs.SameName.{together, eq-itself}
 use Rattle.perm_core.specs.Picture.{has_value, valued, just_lent, just_taken}
 use Rattle.perm_core.proofs.KeepsPicture.Calls.CallEnds.{set-cases}
 use Rattle.perm_core.proofs.KeepsPicture.Calls.Gives.{clear-cases, clear_all-cases, either-cases}
@@ -34,7 +34,7 @@ pub assign-within : (vs : List Held) (x : ℕ) (v : Held) → IsWithin (valued (
 assign-within vs x v y e = go (has-of (assign vs x v) y e)
   where
     pick : (a : Value Name) → ((y ≡ x) × (v ≡ Some a)) ⊎ ((y ≡ x → ⊥) × (slice_get vs y ≡ Some (Some a))) → (valued vs y || nat_eq y x) ≡ true
-    pick a (inl (i, q)) = or_right (valued vs y) (nat_eq y x) (ap (λ z. nat_eq z x) i ∙ eq_itself x)
+    pick a (inl (i, q)) = or_right (valued vs y) (nat_eq y x) (ap (λ z. nat_eq z x) i ∙ eq-itself x)
     pick a (inr (i, q)) = or_left (valued vs y) (nat_eq y x) (valued-of vs y a q)
 
     go : (a : Value Name) × (slice_get (assign vs x v) y ≡ Some (Some a)) → (valued vs y || nat_eq y x) ≡ true

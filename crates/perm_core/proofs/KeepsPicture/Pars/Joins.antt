@@ -21,7 +21,7 @@ use Rattle.perm_meaning.specs.Objects.{Objects}
 use Rattle.perm_meaning.specs.Custody.{from_either, merged}
 use Rattle.perm_meaning.specs.Machine.{Frame, OpenBlock, OpenRecover, OpenCall, Way}
 use Rattle.perm_meaning.specs.NamedHeap.{Held}
-use Rattle.perm_meaning.proofs.SameName.{together, eq_true, eq_itself}
+use Rattle.perm_meaning.proofs.SameName.{together, eq-true, eq-itself}
 use Rattle.perm_tree.specs.Code.{Tie, Shares, Raises, Lends}
 use Rattle.perm_core.specs.Regions.{Zone, Base, Under, Region, OwnOf, OfVariable, OfField, Labels, same_way, same_zone, same_region, may_read, var_may_lead, calls, zones, top_zone, left_zone, right_zone}
 use Rattle.perm_core.specs.Picture.{value_fits, variables_fit, stack_fits, object_fits}
@@ -53,8 +53,8 @@ module _ (u : UnitCode) (labels : Labels) where
       go : (list_any (nat_eq x) xs ≡ true → moved (handed u labels w k v j xs) (OfVariable w k x) ≡ OfVariable v j x) → (t : Bool) → nat_eq x y ≡ t
           → moved (handed u labels w k v j xs) (cond (same_way w w && (nat_eq k k && nat_eq x y)) (OfVariable v j y) (OfVariable w k x)) ≡ OfVariable v j x
       go rec true q =
-          let same : x ≡ y = eq_true x y q in
-          let hit : (same_way w w && (nat_eq k k && nat_eq x y)) ≡ true = together (same_way w w) (nat_eq k k && nat_eq x y) (way-same w) (together (nat_eq k k) (nat_eq x y) (eq_itself k) q) in
+          let same : x ≡ y = eq-true x y q in
+          let hit : (same_way w w && (nat_eq k k && nat_eq x y)) ≡ true = together (same_way w w) (nat_eq k k && nat_eq x y) (way-same w) (together (nat_eq k k) (nat_eq x y) (eq-itself k) q) in
           ap (λ t. moved (handed u labels w k v j xs) (cond t (OfVariable v j y) (OfVariable w k x))) hit ∙ handed-other w k v j xs (OfVariable v j y) (λ b. off y b) ∙ ap (λ y. OfVariable v j y) (sym same)
       go rec false q =
           let miss : (same_way w w && (nat_eq k k && nat_eq x y)) ≡ false = ap (λ t. same_way w w && (nat_eq k k && t)) q ∙ ap (λ t. same_way w w && t) (and-false (nat_eq k k)) ∙ and-false (same_way w w) in
@@ -75,7 +75,7 @@ module _ (u : UnitCode) (labels : Labels) where
       go : (t : Bool) → G k ≡ t → list_any (nat_eq (k + 0)) (cond (G k) (k ∷ members_from u labels n (suc k) G) (members_from u labels n (suc k) G)) ≡ true
       go true q =
           ap (λ t. list_any (nat_eq (k + 0)) (cond t (k ∷ members_from u labels n (suc k) G) (members_from u labels n (suc k) G))) q
-          ∙ or_left (nat_eq (k + 0) k) (list_any (nat_eq (k + 0)) (members_from u labels n (suc k) G)) (ap (λ x. nat_eq x k) same ∙ eq_itself k)
+          ∙ or_left (nat_eq (k + 0) k) (list_any (nat_eq (k + 0)) (members_from u labels n (suc k) G)) (ap (λ x. nat_eq x k) same ∙ eq-itself k)
       go false q = absurd (let f : false ≡ true = sym q ∙ ap G (sym same) ∙ e in cc)
   numbers-has (suc n) k G (suc i) less e =
       let same : k + suc i ≡ suc k + i = omega arith in
@@ -115,7 +115,7 @@ module _ (u : UnitCode) (labels : Labels) where
       go rec true q f = first (or_cases (nat_eq x k) (list_any (nat_eq x) (members_from u labels n (suc k) G)) f)
         where
           first : (nat_eq x k ≡ true) ⊎ (list_any (nat_eq x) (members_from u labels n (suc k) G) ≡ true) → G x ≡ true
-          first (inl d) = ap G (eq_true x k d) ∙ q
+          first (inl d) = ap G (eq-true x k d) ∙ q
           first (inr d) = rec d
 
   pub among-only : (c : Context) (G : Vars) (x : ℕ) → G x ≡ false → list_any (nat_eq x) (isolated_among u labels c G) ≡ false

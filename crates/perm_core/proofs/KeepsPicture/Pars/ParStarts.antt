@@ -16,7 +16,7 @@ use Rattle.perm_meaning.specs.Expressions.{tagged}
 use Rattle.perm_meaning.specs.Custody.{only_at, only}
 use Rattle.perm_meaning.specs.Machine.{Way}
 use Rattle.perm_meaning.specs.NamedHeap.{Held}
-use Rattle.perm_meaning.proofs.Leads.{some_inj, none_some}
+use Rattle.perm_meaning.proofs.Leads.{some-inj, none-some}
 use Rattle.perm_core.specs.Regions.{Zone, Under, Region, OwnOf, OfVariable, OfField, Labels, same_way, same_region, is_visible, may_read, var_may_lead}
 use Rattle.perm_core.specs.Picture.{value_fits, variables_fit, object_fits}
 use Rattle.perm_core.specs.NextPicture.{Renamings, moved, isolated_among, handed}
@@ -27,12 +27,12 @@ use Rattle.std.proofs.lemmas.Bool.{or_left, or_right}
 
 -- ---------- lists ----------
 only-from : (G : Vars) (i : ℕ) (vs : List Held) (x : ℕ) (a : Value Name) → slice_get (only_at tagged i G vs) x ≡ Some (Some a) → (y : ℕ) → y ≡ i + x → (G y ≡ true) × (slice_get vs x ≡ Some (Some a))
-only-from G i [] x a has y e = none_some has
+only-from G i [] x a has y e = none-some has
 only-from G i (v ∷ vs) zero a has y e = let same : i ≡ y = omega (arith, e) in subst (λ y. (G y ≡ true) × (Some v ≡ Some (Some a))) same (go (G i) refl has)
   where
     go : (t : Bool) → G i ≡ t → Some (cond t v None) ≡ Some (Some a) → (G i ≡ true) × (Some v ≡ Some (Some a))
     go true g q = (g, q)
-    go false g q = absurd (let f : None ≡ Some a = some_inj q in cc)
+    go false g q = absurd (let f : None ≡ Some a = some-inj q in cc)
 only-from G i (v ∷ vs) (suc x) a has y e = only-from G (suc i) vs x a has y (omega (arith, e))
 
 -- a variable with a value after all but some lost theirs is one of those, and had it before

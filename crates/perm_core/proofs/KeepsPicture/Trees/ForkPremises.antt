@@ -7,8 +7,8 @@ use Rattle.perm_tree.specs.Vars.{Vars}
 use Rattle.perm_meaning.specs.Names.{Name}
 use Rattle.perm_meaning.specs.Machine.{Frame, Blocks, Close, Leaf, Fork, Way, Here, GoL, GoR, Fine, final}
 use Rattle.perm_meaning.specs.NamedHeap.{Held, Heap, Branch, Task}
-use Rattle.perm_meaning.proofs.Leads.{none_some}
-use Rattle.perm_meaning.proofs.SameName.{eq_true}
+use Rattle.perm_meaning.proofs.Leads.{none-some}
+use Rattle.perm_meaning.proofs.SameName.{eq-true}
 use Rattle.perm_core.specs.Endings.{Ending, ByNothing, is_open, stack_ends, tree_ends}
 use Rattle.perm_core.specs.Regions.{Zone, Labels, calls, top_zone, left_zone, right_zone}
 use Rattle.perm_core.specs.Picture.{context_of, mode_in, variables_fit, stack_fits, has_end, branch_fits, tree_fits, object_fits, hidden_above, lowest, stands_in, sides_stand, none_valued, stack_hidden, branch_hidden, tree_hidden}
@@ -77,7 +77,7 @@ module _ (u : UnitCode) (labels : Labels) (heap : Heap) where
   -- the variables of a side that went well fit, as those of the method that it stands in
   pub fine-vars : (at : Way → Way) (z : Zone) (m : ℕ) (t : Task) (vs : List Held) (n : ℕ) (p : List ℤ) → final t ≡ Some (Fine vs n p) → tree_fits u labels heap.objects at z t ≡ true → stands_in m t ≡ true
       → variables_fit u labels heap.objects z (at Here) 0 0 (context_of u m).vars vs ≡ true
-  fine-vars at z m (Fork b q l r) vs n p e fit stand = none_some e
+  fine-vars at z m (Fork b q l r) vs n p e fit stand = none-some e
   fine-vars at z m (Leaf b) vs n p e fit stand =
       let held : Bool = variables_fit u labels heap.objects (top_zone (at Here) z b.stack) (at Here) (calls b.stack) 0 (context_of u b.own.routine).vars b.own.vars in
       let stack : Bool = stack_fits u labels heap.objects (at Here) z b.own.routine b.stack in
@@ -90,4 +90,4 @@ module _ (u : UnitCode) (labels : Labels) (heap : Heap) where
       is = fine-leaf u labels heap.objects b vs n p e
 
       routine : b.own.routine ≡ m
-      routine = eq_true b.own.routine m (ap (λ (st : List (Frame Held)). nat_eq (lowest b.own.routine st) m) (sym is.stack) ∙ (sym (ap (λ c. not (is_open c) || nat_eq (lowest b.own.routine b.stack) m) is.close) ∙ stand))
+      routine = eq-true b.own.routine m (ap (λ (st : List (Frame Held)). nat_eq (lowest b.own.routine st) m) (sym is.stack) ∙ (sym (ap (λ c. not (is_open c) || nat_eq (lowest b.own.routine b.stack) m) is.close) ∙ stand))

@@ -7,7 +7,7 @@ use Rattle.perm_meaning.specs.Names.{Mark}
 use Rattle.perm_meaning.specs.Machine.{Close, Returning, Failing, NoRoom, Leaf, Fork, Blocks, Way, Here, GoL, GoR, Final, Stage, Over, Due, stage_by_code, stage_from, stage, final, if_both_over, Did, Turn, Takes, NoTurn, turn_op, next_turn, leaf_op, leaf_on, ended, done, told_to, resumed, join_of, fill}
 use Rattle.perm_meaning.specs.NamedHeap.{Held, Heap, Op, Own, Branch, Task, State, find, after, memory}
 use Rattle.perm_meaning.specs.Steps.{Answer, Found, Refused, Missing, within, answered, asked}
-use Rattle.perm_meaning.proofs.Leads.{none_some, some_inj}
+use Rattle.perm_meaning.proofs.Leads.{none-some, some-inj}
 use Rattle.perm_core.specs.Core.{core, look, step}
 use Rattle.perm_core.proofs.KeepsPicture.Turns.LeafTurns.{TurnTo, TurnTells, turn-tells}
 
@@ -27,28 +27,28 @@ module _ (u : UnitCode) where
     on_right : (w : Way) (b : Branch) (p : Blocks) (l r after : Task) → EventAt o v w r after → EventAt o v (GoR w) (Fork b p l r) (Fork b p l after)
 
   leaf-event : (o : Op) (v : Option Held) (b : Branch) (s : Stage Held) → stage b ≡ s → leaf_op (core u) b s ≡ Some o → EventAt o v Here (Leaf b) (leaf_on (core u) b s v)
-  leaf-event o v b (Over f) is e = none_some e
+  leaf-event o v b (Over f) is e = none-some e
   leaf-event o v b (Due t) is e = by_turn (next_turn (core u) b) (turn-tells u b.own b.code b.stack) e v
     where
       open_ : b.close ≡ None
       open_ = due-none b.close (stage_by_code b.code b.stack b.turns b.own) b.turns t b.own is
 
       by_turn : (x : Turn Held Mark Op) → TurnTells u b.own b.code b.stack x → turn_op (core u) x ≡ Some o → (v : Option Held) → EventAt o v Here (Leaf b) (told_to (core u) b t x v)
-      by_turn NoTurn tells e v = none_some e
+      by_turn NoTurn tells e v = none-some e
       by_turn (Takes q told) tells e None = refused_leaf b t _ refl open_ refl
-      by_turn (Takes q told) tells e (Some w) = told_leaf b t w (told w) _ refl open_ is (subst (λ q. TurnTo u b.own w b.code b.stack q (told w)) (some_inj e) (tells w)) refl
+      by_turn (Takes q told) tells e (Some w) = told_leaf b t w (told w) _ refl open_ is (subst (λ q. TurnTo u b.own w b.code b.stack q (told w)) (some-inj e) (tells w)) refl
 
   join-event : (o : Op) (v : Option Held) (b : Branch) (p : Blocks) (l r : Task) (x y : Option (Final Held)) → final l ≡ x → final r ≡ y → if_both_over x y None (λ x y. Some Tick) ≡ Some o
       → EventAt o v Here (Fork b p l r) (if_both_over x y (Fork b p l r) (λ x y. resumed (core u) b (join_of (core u) b p x y)))
-  join-event o v b p l r None y left right e = none_some e
-  join-event o v b p l r (Some x) None left right e = none_some e
-  join-event o v b p l r (Some x) (Some y) left right e = joining b p l r x y _ (sym (some_inj e)) left right refl
+  join-event o v b p l r None y left right e = none-some e
+  join-event o v b p l r (Some x) None left right e = none-some e
+  join-event o v b p l r (Some x) (Some y) left right e = joining b p l r x y _ (sym (some-inj e)) left right refl
 
   pub event-at : (o : Op) (v : Option Held) (w : Way) (t : Task) → look u w t ≡ Some o → EventAt o v w t (fill (core u) w t v)
   event-at o v Here (Leaf b) e = leaf-event o v b (stage b) refl e
   event-at o v Here (Fork b p l r) e = join-event o v b p l r (final l) (final r) refl refl e
-  event-at o v (GoL w) (Leaf b) e = none_some e
-  event-at o v (GoR w) (Leaf b) e = none_some e
+  event-at o v (GoL w) (Leaf b) e = none-some e
+  event-at o v (GoR w) (Leaf b) e = none-some e
   event-at o v (GoL w) (Fork b p l r) e = on_left w b p l r (fill (core u) w l v) (event-at o v w l e)
   event-at o v (GoR w) (Fork b p l r) e = on_right w b p l r (fill (core u) w r v) (event-at o v w r e)
 
@@ -73,12 +73,12 @@ is-step u limit s t w e = looked (look u w s.task) refl e
     made o v q same answer = record { op = o; told = v; looks = q; task = sym (ap (λ (z : State). z.task) same); heap = sym (ap (λ (z : State). z.heap) same); answer = answer }
 
     reply : (o : Op) (x : Answer Held) → look u w s.task ≡ Some o → find (within limit) o s.heap ≡ x → answered (core u) (memory u) (within limit) s w o x ≡ Some t → IsStep u limit s t w
-    reply o (Found v) q f e = made o (Some v) q (some_inj e) (inl (v, (refl, f)))
-    reply o Refused q f e = made o None q (some_inj e) (inr (refl, f))
-    reply o Missing q f e = none_some e
+    reply o (Found v) q f e = made o (Some v) q (some-inj e) (inl (v, (refl, f)))
+    reply o Refused q f e = made o None q (some-inj e) (inr (refl, f))
+    reply o Missing q f e = none-some e
 
     looked : (x : Option Op) → look u w s.task ≡ x → asked (core u) (memory u) (within limit) s w x ≡ Some t → IsStep u limit s t w
-    looked None q e = none_some e
+    looked None q e = none-some e
     looked (Some o) q e = reply o (find (within limit) o s.heap) q refl e
 
 -- what the event does to the tree

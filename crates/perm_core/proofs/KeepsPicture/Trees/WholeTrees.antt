@@ -10,7 +10,7 @@ use Rattle.perm_meaning.specs.Machine.{Blocks, Leaf, Fork, Way, Here, GoL, GoR, 
 use Rattle.perm_meaning.specs.NamedHeap as named
 use Rattle.perm_meaning.specs.NamedHeap.{Held, Heap, Op, Branch, Task, State}
 use Rattle.perm_meaning.specs.Steps.{within}
-use Rattle.perm_meaning.proofs.Leads.{none_some}
+use Rattle.perm_meaning.proofs.Leads.{none-some}
 use Rattle.perm_meaning.proofs.SameName.{together}
 use Rattle.perm_core.specs.Core.{core, look}
 use Rattle.perm_core.specs.Endings.{Ending, ByReturn, ByNothing}
@@ -88,8 +88,8 @@ module _ (u : UnitCode) (limit : ℕ) (labels : Labels) (heap : Heap) where
   pub lifted : (o : Op) (v : Option Held) → ((k : Ending) (below : List ℕ) (at : Way → Way) (z : Zone) (t : Task) (H : Vars) → NodeFits u labels heap k below at z t H → look u Here t ≡ Some o → IsNext o v at z Here t)
       → (w : Way) (t : Task) (k : Ending) (below : List ℕ) (at : Way → Way) (z : Zone) (H : Vars) → NodeFits u labels heap k below at z t H → look u w t ≡ Some o → IsNext o v at z w t
   lifted o v turn Here t k below at z H node e = turn k below at z t H node e
-  lifted o v turn (GoL w) (Leaf b) k below at z H node e = none_some e
-  lifted o v turn (GoR w) (Leaf b) k below at z H node e = none_some e
+  lifted o v turn (GoL w) (Leaf b) k below at z H node e = none-some e
+  lifted o v turn (GoR w) (Leaf b) k below at z H node e = none-some e
   lifted o v turn (GoL w) (Fork b p l r) k below at z H node e =
       let start = left_zone (mode_in u b.own.routine p) (at (GoL Here)) (top_zone (at Here) z b.stack) in
       let beside = right_zone (mode_in u b.own.routine p) (at (GoR Here)) (top_zone (at Here) z b.stack) in

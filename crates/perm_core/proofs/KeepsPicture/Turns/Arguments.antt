@@ -28,7 +28,7 @@ use Rattle.perm_meaning.specs.Objects.{Objects}
 use Rattle.perm_meaning.specs.Expressions.{tagged, held, eval}
 use Rattle.perm_meaning.specs.Machine.{Way}
 use Rattle.perm_meaning.specs.NamedHeap.{Held}
-use Rattle.perm_meaning.proofs.SameName.{eq_itself}
+use Rattle.perm_meaning.proofs.SameName.{eq-itself}
 use Rattle.perm_core.specs.Regions.{Zone, Region, OwnOf, OfVariable, Labels, var_may_lead}
 use Rattle.perm_core.specs.Picture.{value_fits, valued}
 use Rattle.perm_core.specs.NextPicture.{Moves, moved, goal, goal_of, consumed_moves}
@@ -219,7 +219,7 @@ module _ (u : UnitCode) (labels : Labels) (h : Objects Name) (c : Context) (w : 
                 variable-comes (Expression (Local x)) x t.0 b t.1 q
                     (sym (ap (λ o. isnt_value_of (sort_if o) tq) t.1) ∙ kind)
                     (sym (ap (λ o. argument_weak_of o) t.1) ∙ strong)
-                    (λ p s i. home x p s (eq_itself x) (t.1 ∙ ap (λ r. Some r) i))
+                    (λ p s i. home x p s (eq-itself x) (t.1 ∙ ap (λ r. Some r) i))
                     (λ p s q s' i j r. plain-went p (OfVariable w k x) (goal q entry (OwnOf y)) r (isolated-any p s (sym (ap (λ o. has_isolated o) (t.1 ∙ ap (λ r. Some r) i)) ∙ needs))),
               ),
             )
@@ -256,7 +256,7 @@ module _ (u : UnitCode) (labels : Labels) (h : Objects Name) (c : Context) (w : 
                 variable-comes (Consumed x) x t.0 b t.1 here
                     (sym (ap (λ o. isnt_value_of (sort_if o) tq) t.1) ∙ kind)
                     (sym (ap (λ o. weak (type_if (sort_if o)) (Some tq)) t.1) ∙ strong)
-                    (λ p s i. home x p s (eq_itself x) (t.1 ∙ ap (λ r. Some r) i))
+                    (λ p s i. home x p s (eq-itself x) (t.1 ∙ ap (λ r. Some r) i))
                     (λ p s q s' i j r. consumed-went x p s q s' (t.1 ∙ ap (λ r. Some r) i) j r),
               ),
             )

@@ -6,7 +6,7 @@ use Rattle.perm_tree.specs.declared.ast.Perm.{Perm}
 use Rattle.perm_tree.specs.declared.ast.Perm.TheVariants.{Isolated, Immutable, Readable, Writable}
 use Rattle.perm_perm.specs.Adaptation.{adapted}
 use Rattle.perm_perm.specs.Order.{is_at_most}
-use Rattle.perm_meaning.proofs.Leads.{some_inj, none_some}
+use Rattle.perm_meaning.proofs.Leads.{some-inj, none-some}
 use Rattle.perm_core.specs.Regions.{Zone, Base, Under, Region, Frozen, OwnOf, same_zone, same_region, is_frozen, may_read, is_visible, var_may_lead, field_may_lead}
 use Rattle.perm_core.specs.NextPicture.{goal}
 use Rattle.perm_core.proofs.Commute.LeadsTo.{zone-true, frozen-true}
@@ -69,27 +69,27 @@ thawed _ _ entry r = r
 -- what is read from a field f of an object in the region home through a variable p leads where it is seen to; through an isolated one nothing tied is read
 pub loaded : (p f s q : Perm) (e entry home to r : Region) (z : Zone) → adapted p f ≡ Some s → is_at_most s q ≡ true → (p ≡ Isolated → f ≡ Readable → ⊥) → (p ≡ Isolated → f ≡ Writable → ⊥)
     → var_may_lead p e z home ≡ true → field_may_lead f entry home r ≡ true → var_may_lead q to z (thawed p f entry r) ≡ true
-loaded Isolated Isolated s q e entry home to r z a o d t k l = none_some a
-loaded Isolated Immutable s q e entry home to r z a o d t k l = weaker Immutable q to z r (ap (λ s. is_at_most s q) (some_inj a) ∙ o) l
+loaded Isolated Isolated s q e entry home to r z a o d t k l = none-some a
+loaded Isolated Immutable s q e entry home to r z a o d t k l = weaker Immutable q to z r (ap (λ s. is_at_most s q) (some-inj a) ∙ o) l
 loaded Isolated Readable s q e entry home to r z a o d t k l = absurd (d refl refl)
 loaded Isolated Writable s q e entry home to r z a o d t k l = absurd (t refl refl)
 loaded Immutable Isolated s q e entry home to r z a o d t k l =
-    weaker Immutable q to z (cond (same_region r entry) Frozen r) (ap (λ s. is_at_most s q) (some_inj a) ∙ o) (ice (same_region r entry) (or_cases (same_region r entry) (is_frozen home && is_frozen r) l))
+    weaker Immutable q to z (cond (same_region r entry) Frozen r) (ap (λ s. is_at_most s q) (some-inj a) ∙ o) (ice (same_region r entry) (or_cases (same_region r entry) (is_frozen home && is_frozen r) l))
   where
     ice : (b : Bool) → (b ≡ true) ⊎ ((is_frozen home && is_frozen r) ≡ true) → is_frozen (cond b Frozen r) ≡ true
     ice true g = refl
     ice false (inl g) = absurd (cc)
     ice false (inr g) = (and_parts (is_frozen home) (is_frozen r) g).1
-loaded Immutable Immutable s q e entry home to r z a o d t k l = weaker Immutable q to z r (ap (λ s. is_at_most s q) (some_inj a) ∙ o) l
+loaded Immutable Immutable s q e entry home to r z a o d t k l = weaker Immutable q to z r (ap (λ s. is_at_most s q) (some-inj a) ∙ o) l
 loaded Immutable Readable s q e entry home to r z a o d t k l =
-    weaker Immutable q to z r (ap (λ s. is_at_most s q) (some_inj a) ∙ o) (ap (λ x. is_frozen x) (from-frozen r (subst (λ x. Sees x r) (frozen-true home k) (sees home r l))))
-loaded Immutable Writable s q e entry home to r z a o d t k l = weaker Immutable q to z r (ap (λ s. is_at_most s q) (some_inj a) ∙ o) (ap (λ x. is_frozen x) (region-true r home l) ∙ k)
-loaded Readable Isolated s q e entry home to r z a o d t k l = none_some a
-loaded Readable Immutable s q e entry home to r z a o d t k l = weaker Immutable q to z r (ap (λ s. is_at_most s q) (some_inj a) ∙ o) l
+    weaker Immutable q to z r (ap (λ s. is_at_most s q) (some-inj a) ∙ o) (ap (λ x. is_frozen x) (from-frozen r (subst (λ x. Sees x r) (frozen-true home k) (sees home r l))))
+loaded Immutable Writable s q e entry home to r z a o d t k l = weaker Immutable q to z r (ap (λ s. is_at_most s q) (some-inj a) ∙ o) (ap (λ x. is_frozen x) (region-true r home l) ∙ k)
+loaded Readable Isolated s q e entry home to r z a o d t k l = none-some a
+loaded Readable Immutable s q e entry home to r z a o d t k l = weaker Immutable q to z r (ap (λ s. is_at_most s q) (some-inj a) ∙ o) l
 loaded Readable Readable s q e entry home to r z a o d t k l =
-    weaker Readable q to z r (ap (λ s. is_at_most s q) (some_inj a) ∙ o) (visible (OwnOf z) r (sees-on (OwnOf z) home r (sees (OwnOf z) home k) (sees home r l)))
-loaded Readable Writable s q e entry home to r z a o d t k l = weaker Readable q to z r (ap (λ s. is_at_most s q) (some_inj a) ∙ o) (ap (λ x. is_visible (OwnOf z) x) (region-true r home l) ∙ k)
-loaded Writable Isolated s q e entry home to r z a o d t k l = none_some a
-loaded Writable Immutable s q e entry home to r z a o d t k l = weaker Immutable q to z r (ap (λ s. is_at_most s q) (some_inj a) ∙ o) l
-loaded Writable Readable s q e entry home to r z a o d t k l = weaker Readable q to z r (ap (λ s. is_at_most s q) (some_inj a) ∙ o) (subst (λ x. is_visible x r ≡ true) (region-true home (OwnOf z) k) l)
-loaded Writable Writable s q e entry home to r z a o d t k l = weaker Writable q to z r (ap (λ s. is_at_most s q) (some_inj a) ∙ o) (is-same (region-true r home l ∙ region-true home (OwnOf z) k))
+    weaker Readable q to z r (ap (λ s. is_at_most s q) (some-inj a) ∙ o) (visible (OwnOf z) r (sees-on (OwnOf z) home r (sees (OwnOf z) home k) (sees home r l)))
+loaded Readable Writable s q e entry home to r z a o d t k l = weaker Readable q to z r (ap (λ s. is_at_most s q) (some-inj a) ∙ o) (ap (λ x. is_visible (OwnOf z) x) (region-true r home l) ∙ k)
+loaded Writable Isolated s q e entry home to r z a o d t k l = none-some a
+loaded Writable Immutable s q e entry home to r z a o d t k l = weaker Immutable q to z r (ap (λ s. is_at_most s q) (some-inj a) ∙ o) l
+loaded Writable Readable s q e entry home to r z a o d t k l = weaker Readable q to z r (ap (λ s. is_at_most s q) (some-inj a) ∙ o) (subst (λ x. is_visible x r ≡ true) (region-true home (OwnOf z) k) l)
+loaded Writable Writable s q e entry home to r z a o d t k l = weaker Writable q to z r (ap (λ s. is_at_most s q) (some-inj a) ∙ o) (is-same (region-true r home l ∙ region-true home (OwnOf z) k))

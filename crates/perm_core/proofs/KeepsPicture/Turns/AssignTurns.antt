@@ -19,8 +19,8 @@ use Rattle.perm_meaning.specs.Objects.{Objects}
 use Rattle.perm_meaning.specs.Expressions.{assign}
 use Rattle.perm_meaning.specs.Machine.{Frame, Way, Here, On, done}
 use Rattle.perm_meaning.specs.NamedHeap.{Held, Own, Branch}
-use Rattle.perm_meaning.proofs.Leads.{some_inj}
-use Rattle.perm_meaning.proofs.SameName.{eq_itself}
+use Rattle.perm_meaning.proofs.Leads.{some-inj}
+use Rattle.perm_meaning.proofs.SameName.{eq-itself}
 use Rattle.perm_core.specs.Core.{core}
 use Rattle.perm_core.specs.Regions.{Zone, Region, OwnOf, OfVariable, OfField, Labels, same_way, same_region, is_absent, var_may_lead, calls, zones, top_zone}
 use Rattle.perm_core.specs.Picture.{context_of, value_fits, variables_fit, stack_fits, tree_fits, object_fits, valued, hidden_above, context_above, RestGoes, stack_hidden}
@@ -109,7 +109,7 @@ module _ (u : UnitCode) (labels : Labels) (h : Objects Name) (at : Way → Way) 
   allowed = (top-goes u below b.own.routine (Do span (Assign x a) rest) st (valued b.own.vars) H goes).1.0
 
   type : (t : Ty) × (type_of c x ≡ Some t)
-  type = get-some c.vars x (part-known (context_above u below b.own.routine st) (Simple (Assign x a)) (valued b.own.vars) allowed x (first (nat_eq x x) (any_in_argument (nat_eq x) a) (eq_itself x)))
+  type = get-some c.vars x (part-known (context_above u below b.own.routine st) (Simple (Assign x a)) (valued b.own.vars) allowed x (first (nat_eq x x) (any_in_argument (nat_eq x) a) (eq-itself x)))
     where
       first : (p q : Bool) → p ≡ true → (p || q) ≡ true
       first true q e = refl
@@ -142,7 +142,7 @@ module _ (u : UnitCode) (labels : Labels) (h : Objects Name) (at : Way → Way) 
 
       new : (d : Value Name) → v ≡ Some d → Fits x type.0 d
       new d q =
-          let same : comes.0 ≡ d = some_inj (sym comes.1.0 ∙ q) in
+          let same : comes.0 ≡ d = some-inj (sym comes.1.0 ∙ q) in
           subst (λ (g : Region). value_fits h (λ p m. var_may_lead p (OfVariable (at Here) (calls st) x) (top_zone (at Here) z st) (moved (consumed_moves c (at Here) (calls st) a g) (labels m))) type.0 d ≡ true) (sym home)
           (subst (λ (e : Value Name). Comes u labels h c (at Here) (calls st) (top_zone (at Here) z st) b.own.vars fit type.0 (OfVariable (at Here) (calls st) x) (top_zone (at Here) z st) a e) same comes.1.1)
 
@@ -151,7 +151,7 @@ module _ (u : UnitCode) (labels : Labels) (h : Objects Name) (at : Way → Way) 
         where
           pick : ((n ≡ x) × (v ≡ Some d)) ⊎ ((n ≡ x → ⊥) × (slice_get ws n ≡ Some (Some d))) → Fits n t d
           pick (inl q) =
-              let same : type.0 ≡ t = some_inj (sym type.1 ∙ ap (slice_get c.vars) (sym q.0) ∙ is) in
+              let same : type.0 ≡ t = some-inj (sym type.1 ∙ ap (slice_get c.vars) (sym q.0) ∙ is) in
               subst (λ (m : ℕ). Fits m t d) (sym q.0) (subst (λ (s : Ty). Fits x s d) same (new d q.1))
           pick (inr q) =
               let o = one-cases b.own.vars ws a v n d one q.1 in
@@ -165,7 +165,7 @@ module _ (u : UnitCode) (labels : Labels) (h : Objects Name) (at : Way → Way) 
     where
       stands : (a : Argument) (y : ℕ) → a ≡ Consumed y → mentions (Assign x a) y ≡ true
       stands (Expression e) y q = absurd (let no : ⊥ = cc q in no)
-      stands (Consumed n) y q = let same : n ≡ y = cc q in second (nat_eq y x) (nat_eq y n) (ap (nat_eq y) same ∙ eq_itself y)
+      stands (Consumed n) y q = let same : n ≡ y = cc q in second (nat_eq y x) (nat_eq y n) (ap (nat_eq y) same ∙ eq-itself y)
         where
           second : (p q : Bool) → q ≡ true → (p || q) ≡ true
           second true q e = refl

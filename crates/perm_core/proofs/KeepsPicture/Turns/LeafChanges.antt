@@ -7,7 +7,7 @@ use Rattle.perm_meaning.specs.Effects.{Tick, Load, Store, Take, Make}
 use Rattle.perm_meaning.specs.Machine.{Frame, Failure, Leaf, Here, Stage, Over, Due, stage_by_code, stage, Did, Dies, Turn, Takes, NoTurn, turn_op, next_turn, leaf_op, leaf_on, told_to, done, fill}
 use Rattle.perm_meaning.specs.NamedHeap.{Held, Heap, Op, Own, Branch, find}
 use Rattle.perm_meaning.specs.Steps.{Answer, Found, Refused, Missing}
-use Rattle.perm_meaning.proofs.Leads.{none_some, some_inj}
+use Rattle.perm_meaning.proofs.Leads.{none-some, some-inj}
 use Rattle.perm_core.specs.Core.{core, look}
 use Rattle.perm_core.specs.Regions.{Labels}
 use Rattle.perm_core.specs.NextPicture.{Change, no_change, is_failing, unless_trap}
@@ -77,9 +77,9 @@ module _ (u : UnitCode) (labels : Labels) where
   leaf-told fits b o h w asks answered = by_stage (stage b) refl asks
     where
       by_turn : (t : ℕ) → stage b ≡ Due t → (x : Turn Held Mark Op) → next_turn (core u) b ≡ x → TurnTells u b.own b.code b.stack x → turn_op (core u) x ≡ Some o → LeafTold b o w
-      by_turn t is NoTurn here tells e = none_some e
+      by_turn t is NoTurn here tells e = none-some e
       by_turn t is (Takes q told) here tells e =
-          let same_op : q ≡ o = some_inj e in
+          let same_op : q ≡ o = some-inj e in
           record {
             t = t;
             d = told w;
@@ -93,5 +93,5 @@ module _ (u : UnitCode) (labels : Labels) where
           }
 
       by_stage : (s : Stage Held) → stage b ≡ s → leaf_op (core u) b s ≡ Some o → LeafTold b o w
-      by_stage (Over f) is e = none_some e
+      by_stage (Over f) is e = none-some e
       by_stage (Due t) is e = by_turn t is (next_turn (core u) b) refl (turn-tells u b.own b.code b.stack) e

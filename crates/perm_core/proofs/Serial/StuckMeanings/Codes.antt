@@ -17,10 +17,10 @@ use Rattle.perm_meaning.specs.NamedHeap.{Heap, Held, Own, marks, find, after}
 use Rattle.perm_meaning.specs.Steps.{Answer, Found, Refused, Missing}
 use Rattle.perm_meaning.specs.Meaning as meaning
 use Rattle.perm_meaning.specs.Meaning.{Moment, Result, Well, Gave, Handed, Fails, Full, Stuck, fail, left_of, right_of, set_vars, then_do, close, recovered, par_of, perform, doing, does, mean}
-use Rattle.perm_meaning.proofs.LeftFirst.Reached.{Frame, going, Follows, close_follows, recovered_follows}
-use Rattle.perm_meaning.proofs.LeftFirst.OneTurn.{then_task, spending, on_follows, test_to, depth_to}
-use Rattle.perm_meaning.proofs.LeftFirst.AtPar.{par_to}
-use Rattle.perm_meaning.proofs.LeftFirst.Serial.{effect_to, follows, mean_follows}
+use Rattle.perm_meaning.proofs.LeftFirst.Reached.{Frame, going, Follows, close-follows, recovered-follows}
+use Rattle.perm_meaning.proofs.LeftFirst.OneTurn.{then_task, spending, on-follows, test-to, depth-to}
+use Rattle.perm_meaning.proofs.LeftFirst.AtPar.{par-to}
+use Rattle.perm_meaning.proofs.LeftFirst.Serial.{effect-to, follows, mean-follows}
 use Rattle.perm_core.specs.Endings.{Ending, ByNothing, ByGive, ByReturn, ends}
 use Rattle.perm_core.proofs.Serial.StuckMeanings.CalledCodes.{AllReturn, CallsRightly, AllCallRightly, effect-calls}
 use Rattle.perm_core.proofs.Serial.StuckMeanings.Results.{EndsBy, spend-by, test-by, fails-by, does-by, mean-by}
@@ -157,7 +157,7 @@ module _ (u : UnitCode) (fits : ℕ → Bool) (t : ℕ) (again : Code → Moment
       let f : Moment → Result = λ z. doing u fits again at (effect tagged u marks i z.own) z in
       then-stalls u fits rest st m.turns (going u (Do at i rest) st m) _ (does u fits again rest)
       (spending u fits (Do at i rest) rest st (λ n l. refl) m.turns m.own m.heap f
-      (λ n q. effect_to u fits t again less (Do at i rest) at rest st (record m { turns = n }) (effect tagged u marks i m.own) (omega arith)))
+      (λ n q. effect-to u fits t again less (Do at i rest) at rest st (record m { turns = n }) (effect tagged u marks i m.own) (omega arith)))
       (spend-by ByNothing m.turns m.own m.heap f (λ z. doing-by at (effect tagged u marks i z.own) z))
       (spending-stalls u fits (Do at i rest) st (λ n l. refl) m.turns m.own m.heap f
       (λ n q. effect-stalls (Do at i rest) at rest st (record m { turns = n }) (effect tagged u marks i m.own) (omega arith) (effect-calls u all i m.own)))
@@ -169,11 +169,11 @@ module _ (u : UnitCode) (fits : ℕ → Bool) (t : ℕ) (again : Code → Moment
       let r = and_parts (ends ByNothing b) (ends k rest) p.1 in
       then-stalls u fits rest st m.turns (going u (If at x own1 a own2 b rest) st m) _ (does u fits again rest)
       (spending u fits (If at x own1 a own2 b rest) rest st (λ n l. refl) m.turns m.own m.heap (λ z. meaning.on_test (eval tagged x z.own.vars) at z f g)
-      (λ n q. test_to u fits (If at x own1 a own2 b rest) rest st (record m { turns = n }) (eval tagged x m.own.vars) at _ _ f g
-      (on_follows u fits (If at x own1 a own2 b rest) rest a st (OpenBlock own1 rest ∷ st) (record m { turns = n }) m.own m.heap (f (record m { turns = n }))
-      (close_follows u fits own1 rest st n _ (does u fits again a (record m { turns = n })) (follows u fits t again less a (record m { turns = n }) (OpenBlock own1 rest ∷ st) (omega arith))))
-      (on_follows u fits (If at x own1 a own2 b rest) rest b st (OpenBlock own2 rest ∷ st) (record m { turns = n }) m.own m.heap (g (record m { turns = n }))
-      (close_follows u fits own2 rest st n _ (does u fits again b (record m { turns = n })) (follows u fits t again less b (record m { turns = n }) (OpenBlock own2 rest ∷ st) (omega arith))))))
+      (λ n q. test-to u fits (If at x own1 a own2 b rest) rest st (record m { turns = n }) (eval tagged x m.own.vars) at _ _ f g
+      (on-follows u fits (If at x own1 a own2 b rest) rest a st (OpenBlock own1 rest ∷ st) (record m { turns = n }) m.own m.heap (f (record m { turns = n }))
+      (close-follows u fits own1 rest st n _ (does u fits again a (record m { turns = n })) (follows u fits t again less a (record m { turns = n }) (OpenBlock own1 rest ∷ st) (omega arith))))
+      (on-follows u fits (If at x own1 a own2 b rest) rest b st (OpenBlock own2 rest ∷ st) (record m { turns = n }) m.own m.heap (g (record m { turns = n }))
+      (close-follows u fits own2 rest st n _ (does u fits again b (record m { turns = n })) (follows u fits t again less b (record m { turns = n }) (OpenBlock own2 rest ∷ st) (omega arith))))))
       (spend-by ByNothing m.turns m.own m.heap _ (λ z. test-by ByNothing (eval tagged x z.own.vars) at z f g (close-by own1 (does u fits again a z)) (close-by own2 (does u fits again b z))))
       (spending-stalls u fits (If at x own1 a own2 b rest) st (λ n l. refl) m.turns m.own m.heap (λ z. meaning.on_test (eval tagged x z.own.vars) at z f g)
       (λ n q. test-stalls u fits (If at x own1 a own2 b rest) st (record m { turns = n }) (eval tagged x m.own.vars) at _ _ f g
@@ -190,7 +190,7 @@ module _ (u : UnitCode) (fits : ℕ → Bool) (t : ℕ) (again : Code → Moment
       (λ n q. test-stalls u fits (While at x own body rest) st (record m { turns = n }) (eval tagged x m.own.vars) at _ _ f g
       (on-stalls u fits (While at x own body rest) body st (OpenBlock own (While at x own body rest) ∷ st) (record m { turns = n }) m.own m.heap (f (record m { turns = n }))
       (then-stalls u fits (While at x own body rest) st n (going u body (OpenBlock own (While at x own body rest) ∷ st) (record m { turns = n })) (close own (does u fits again body (record m { turns = n }))) (again (While at x own body rest))
-      (close_follows u fits own (While at x own body rest) st n _ (does u fits again body (record m { turns = n })) (follows u fits t again less body (record m { turns = n }) (OpenBlock own (While at x own body rest) ∷ st) (omega arith)))
+      (close-follows u fits own (While at x own body rest) st n _ (does u fits again body (record m { turns = n })) (follows u fits t again less body (record m { turns = n }) (OpenBlock own (While at x own body rest) ∷ st) (omega arith)))
       (close-by own (does u fits again body (record m { turns = n })))
       (λ s. code-stalls ByNothing body (record m { turns = n }) (OpenBlock own (While at x own body rest) ∷ st) (omega arith) p.0 (close-stuck own (does u fits again body (record m { turns = n })) (by ByNothing body (record m { turns = n }) p.0) s))
       (λ z lz. stops k (While at x own body rest) z st (omega arith) e)))
@@ -201,8 +201,8 @@ module _ (u : UnitCode) (fits : ℕ → Bool) (t : ℕ) (again : Code → Moment
       let r = and_parts (ends ByNothing b) (ends k rest) p.1 in
       then-stalls u fits rest st m.turns (going u (Par at own1 a own2 b rest) st m) _ (does u fits again rest)
       (spending u fits (Par at own1 a own2 b rest) rest st (λ n l. refl) m.turns m.own m.heap (λ z. choose (nat_lt z.own.depth depth_limit) f (meaning.trap at StackOverflow) z)
-      (λ n q. depth_to u fits (Par at own1 a own2 b rest) rest st (record m { turns = n }) (nat_lt m.own.depth depth_limit) at _ f
-      (par_to u fits (Par at own1 a own2 b rest) rest st (record m { turns = n }) (blocks own1 a own2 b) (does u fits again a (left_of (record m { turns = n }))) (λ h. does u fits again b (right_of (record m { turns = n }) h))
+      (λ n q. depth-to u fits (Par at own1 a own2 b rest) rest st (record m { turns = n }) (nat_lt m.own.depth depth_limit) at _ f
+      (par-to u fits (Par at own1 a own2 b rest) rest st (record m { turns = n }) (blocks own1 a own2 b) (does u fits again a (left_of (record m { turns = n }))) (λ h. does u fits again b (right_of (record m { turns = n }) h))
       (follows u fits t again less a (left_of (record m { turns = n })) [] (omega arith)) (λ h. follows u fits t again less b (right_of (record m { turns = n }) h) [] (omega arith)))))
       (spend-by ByNothing m.turns m.own m.heap _ (λ z. deep (nat_lt z.own.depth depth_limit) z f (par-by (blocks own1 a own2 b) z (does u fits again a (left_of z)) (λ h. does u fits again b (right_of z h)))))
       (spending-stalls u fits (Par at own1 a own2 b rest) st (λ n l. refl) m.turns m.own m.heap (λ z. choose (nat_lt z.own.depth depth_limit) f (meaning.trap at StackOverflow) z)
@@ -220,8 +220,8 @@ module _ (u : UnitCode) (fits : ℕ → Bool) (t : ℕ) (again : Code → Moment
       let p = and_parts (ends ByGive body) (ends k rest) e in
       then-stalls u fits rest st m.turns (going u (Recover at x own hides body rest) st m) _ (does u fits again rest)
       (spending u fits (Recover at x own hides body rest) rest st (λ n l. refl) m.turns m.own m.heap f
-      (λ n q. on_follows u fits (Recover at x own hides body rest) rest body st (OpenRecover own hides [] rest ∷ st) (record m { turns = n }) m.own m.heap (f (record m { turns = n }))
-      (recovered_follows u fits own hides [] rest st n _ (does u fits again body (record m { turns = n })) (follows u fits t again less body (record m { turns = n }) (OpenRecover own hides [] rest ∷ st) (omega arith)))))
+      (λ n q. on-follows u fits (Recover at x own hides body rest) rest body st (OpenRecover own hides [] rest ∷ st) (record m { turns = n }) m.own m.heap (f (record m { turns = n }))
+      (recovered-follows u fits own hides [] rest st n _ (does u fits again body (record m { turns = n })) (follows u fits t again less body (record m { turns = n }) (OpenRecover own hides [] rest ∷ st) (omega arith)))))
       (spend-by ByNothing m.turns m.own m.heap f (λ z. recovered-by own (does u fits again body z)))
       (spending-stalls u fits (Recover at x own hides body rest) st (λ n l. refl) m.turns m.own m.heap f
       (λ n q. on-stalls u fits (Recover at x own hides body rest) body st (OpenRecover own hides [] rest ∷ st) (record m { turns = n }) m.own m.heap (f (record m { turns = n }))
@@ -233,4 +233,4 @@ pub mean-stalls : (u : UnitCode) (fits : ℕ → Bool) → AllReturn u → (n : 
 mean-stalls u fits all zero k c m st le e =
     code-stalls u fits 0 (λ c m. fail NoTurns m) (λ c m st h. absurd (omega arith)) (λ k c m e. fails-by k NoTurns m.turns m.own.printed m.heap) (λ k c m st h e. absurd (omega arith)) all k c m st le e
 mean-stalls u fits all (suc n) k c m st le e =
-    code-stalls u fits (suc n) (λ c m. mean u fits n c m) (λ c m st h. mean_follows u fits n c m st (omega arith)) (λ k c m e. mean-by u fits n k c m e) (λ k c m st h e. mean-stalls u fits all n k c m st (omega arith) e) all k c m st le e
+    code-stalls u fits (suc n) (λ c m. mean u fits n c m) (λ c m st h. mean-follows u fits n c m st (omega arith)) (λ k c m e. mean-by u fits n k c m e) (λ k c m st h e. mean-stalls u fits all n k c m st (omega arith) e) all k c m st le e

@@ -13,9 +13,9 @@ use Rattle.perm_meaning.specs.Turns as turns
 use Rattle.perm_meaning.specs.NamedHeap.{Heap, Held, Op, Branch, Task, Final, State, named, memory}
 use Rattle.perm_meaning.specs.Meaning as meaning
 use Rattle.perm_meaning.specs.Meaning.{Moment, Result, Well, Gave, Handed, Fails, Full, Stuck, left_of, right_of, on_final, after_join, par_of}
-use Rattle.perm_meaning.proofs.Leads.{in_left, in_right, lead_left, lead_right}
+use Rattle.perm_meaning.proofs.Leads.{in_left, in_right, lead-left, lead-right}
 use Rattle.perm_meaning.proofs.LeftFirst.Reached.{Frame, at_code, going, Follows}
-use Rattle.perm_meaning.proofs.LeftFirst.OneTurn.{plain, at_empty}
+use Rattle.perm_meaning.proofs.LeftFirst.OneTurn.{plain, at-empty}
 use Rattle.perm_core.specs.Endings.{ByNothing}
 use Rattle.perm_core.proofs.Serial.StuckMeanings.Results.{EndsBy}
 use Rattle.perm_core.proofs.Serial.StuckMeanings.Stops.{Stalls, TurnStalls, stops-along, left-stops, right-stops}
@@ -56,11 +56,11 @@ module _ (u : UnitCode) (fits : ℕ → Bool) where
   -- the left side runs first
   left-stalls : (b : Branch) (p : Blocks) (n : ℕ) (rt : Task) (s : State) (r : Result) (go : Final → Heap → Result) → Follows u fits End [] n s r → EndsBy ByNothing r → Stalls u fits r s
       → ((x : Final) (l : Task) (h : Heap) → GivesNothing x → final l ≡ Some x → Stalls u fits (go x h) (record { task = Fork b p l rt; heap = h })) → Stalls u fits (on_final r go) (in_left b p rt s)
-  left-stalls b p n rt s (Well m) go f is x g = λ e. stops-along u fits (in_left b p rt s) (in_left b p rt (going u End [] m)) (lead_left (named Copies u) (memory u) fits b p rt s (going u End [] m) f.1) (g _ (Leaf (at_code u End [] m)) m.heap tt refl e)
+  left-stalls b p n rt s (Well m) go f is x g = λ e. stops-along u fits (in_left b p rt s) (in_left b p rt (going u End [] m)) (lead-left (named Copies u) (memory u) fits b p rt s (going u End [] m) f.1) (g _ (Leaf (at_code u End [] m)) m.heap tt refl e)
   left-stalls b p n rt s (Gave v m) go f is x g = absurd is
   left-stalls b p n rt s (Handed y v m) go f is x g = absurd is
   left-stalls b p n rt s (Fails e t out h) go f is x g =
-      λ q. stops-along u fits (in_left b p rt s) (in_left b p rt (record { task = Leaf f.2; heap = h })) (lead_left (named Copies u) (memory u) fits b p rt s (record { task = Leaf f.2; heap = h }) f.4) (g (Failed e t out) (Leaf f.2) h tt f.3 q)
+      λ q. stops-along u fits (in_left b p rt s) (in_left b p rt (record { task = Leaf f.2; heap = h })) (lead-left (named Copies u) (memory u) fits b p rt s (record { task = Leaf f.2; heap = h }) f.4) (g (Failed e t out) (Leaf f.2) h tt f.3 q)
   left-stalls b p n rt s Full go f is x g = λ e. absurd (let z : ⊥ = cc e in z)
   left-stalls b p n rt s Stuck go f is x g = λ e. left-stops u fits b p rt s (x refl)
 
@@ -68,11 +68,11 @@ module _ (u : UnitCode) (fits : ℕ → Bool) where
   right-stalls : (b : Branch) (p : Blocks) (n : ℕ) (lt : Task) (lf : Final) → final lt ≡ Some lf → (s : State) (r : Result) (go : Final → Heap → Result) → Follows u fits End [] n s r → EndsBy ByNothing r → Stalls u fits r s
       → ((x : Final) (l : Task) (h : Heap) → GivesNothing x → final l ≡ Some x → Stalls u fits (go x h) (record { task = Fork b p lt l; heap = h })) → Stalls u fits (on_final r go) (in_right b p lt s)
   right-stalls b p n lt lf d s (Well m) go f is x g =
-      λ e. stops-along u fits (in_right b p lt s) (in_right b p lt (going u End [] m)) (lead_right (named Copies u) (memory u) fits b p lt lf d s (going u End [] m) f.1) (g _ (Leaf (at_code u End [] m)) m.heap tt refl e)
+      λ e. stops-along u fits (in_right b p lt s) (in_right b p lt (going u End [] m)) (lead-right (named Copies u) (memory u) fits b p lt lf d s (going u End [] m) f.1) (g _ (Leaf (at_code u End [] m)) m.heap tt refl e)
   right-stalls b p n lt lf d s (Gave v m) go f is x g = absurd is
   right-stalls b p n lt lf d s (Handed y v m) go f is x g = absurd is
   right-stalls b p n lt lf d s (Fails e t out h) go f is x g =
-      λ q. stops-along u fits (in_right b p lt s) (in_right b p lt (record { task = Leaf f.2; heap = h })) (lead_right (named Copies u) (memory u) fits b p lt lf d s (record { task = Leaf f.2; heap = h }) f.4) (g (Failed e t out) (Leaf f.2) h tt f.3 q)
+      λ q. stops-along u fits (in_right b p lt s) (in_right b p lt (record { task = Leaf f.2; heap = h })) (lead-right (named Copies u) (memory u) fits b p lt lf d s (record { task = Leaf f.2; heap = h }) f.4) (g (Failed e t out) (Leaf f.2) h tt f.3 q)
   right-stalls b p n lt lf d s Full go f is x g = λ e. absurd (let z : ⊥ = cc e in z)
   right-stalls b p n lt lf d s Stuck go f is x g = λ e. right-stops u fits b p lt lf d s (x refl)
 
@@ -83,14 +83,14 @@ module _ (u : UnitCode) (fits : ℕ → Bool) where
       → TurnStalls u fits c st m (turns.tick tagged Copies (Splits p d)) (par_of p m left right)
   par-stalls c d st m p left right f a x g b y =
       left-stalls w p (m.turns - m.turns / 2) (Leaf (plain p.right [] (right_of m m.heap))) (record { task = Leaf (plain p.left [] (left_of m)); heap = m.heap }) left _
-      (subst (λ (z : Branch). Follows u fits End [] (m.turns - m.turns / 2) (record { task = Leaf z; heap = m.heap }) left) (at_empty u p.left (left_of m)) f)
+      (subst (λ (z : Branch). Follows u fits End [] (m.turns - m.turns / 2) (record { task = Leaf z; heap = m.heap }) left) (at-empty u p.left (left_of m)) f)
       a
-      (subst (λ (z : Branch). Stalls u fits left (record { task = Leaf z; heap = m.heap })) (at_empty u p.left (left_of m)) x)
+      (subst (λ (z : Branch). Stalls u fits left (record { task = Leaf z; heap = m.heap })) (at-empty u p.left (left_of m)) x)
       (λ i l h plain_left e.
       right-stalls w p (m.turns / 2) l i e (record { task = Leaf (plain p.right [] (right_of m h)); heap = h }) (right h) _
-      (subst (λ (z : Branch). Follows u fits End [] (m.turns / 2) (record { task = Leaf z; heap = h }) (right h)) (at_empty u p.right (right_of m h)) (g h))
+      (subst (λ (z : Branch). Follows u fits End [] (m.turns / 2) (record { task = Leaf z; heap = h }) (right h)) (at-empty u p.right (right_of m h)) (g h))
       (b h)
-      (subst (λ (z : Branch). Stalls u fits (right h) (record { task = Leaf z; heap = h })) (at_empty u p.right (right_of m h)) (y h))
+      (subst (λ (z : Branch). Stalls u fits (right h) (record { task = Leaf z; heap = h })) (at-empty u p.right (right_of m h)) (y h))
       (λ j r h1 plain_right e1 q. absurd (join-goes (merged (writes_l p) (writes_r p)) m.own.vars m.own.printed m h1 i j plain_left plain_right q)))
     where
       w : Branch

@@ -1,5 +1,5 @@
 -- States that have stopped: they haven't ended, and have no event next. What a turn without an event, or an event whose field isn't there, leads to.
-use Rattle.std.proofs.Common.{◌≡◌, ℕ, zero, suc, ◌≤◌, Bool, true, false, Option, Some, None, List, refl, sym, ap, ◌∙◌, subst}
+use Rattle.std.proofs.Common.{◌≡◌, ℕ, zero, suc, ◌≤◌, Bool, true, false, Some, None, List, refl, sym, ap, ◌∙◌, subst}
 use Rattle.perm_tree.specs.declared.ast.Span.{Span}
 use Rattle.perm_tree.specs.Code.{Code, UnitCode}
 use Rattle.perm_meaning.specs.Values.{Eval, Gives, Traps, Mistyped, Truth}
@@ -9,10 +9,10 @@ use Rattle.perm_meaning.specs.Names.{Mark}
 use Rattle.perm_meaning.specs.Custody.{Copies}
 use Rattle.perm_meaning.specs.Turns as turns
 use Rattle.perm_meaning.specs.NamedHeap.{Heap, Held, Op, Own, Branch, Task, State, marks, named, memory, find, after}
-use Rattle.perm_meaning.specs.Steps.{Answer, Found, Refused, Missing, granted, asked_with_care, careful, leftmost, leftmost_of}
+use Rattle.perm_meaning.specs.Steps.{Answer, Found, Refused, Missing, granted, asked_with_care, leftmost, leftmost_of}
 use Rattle.perm_meaning.specs.Meaning as meaning
 use Rattle.perm_meaning.specs.Meaning.{Moment, Result, Well, Gave, Handed, Fails, Full, Stuck, spend, then_do}
-use Rattle.perm_meaning.proofs.Leads.{some_inj, none_some, stay, one, lead, in_left, in_right, lead_left, lead_right}
+use Rattle.perm_meaning.proofs.Leads.{some-inj, none-some, stay, one, lead, in_left, in_right, lead-left, lead-right}
 use Rattle.perm_meaning.proofs.LeftFirst.Reached.{Frame, going, settles, Reach, Follows}
 use Rattle.perm_meaning.proofs.LeftFirst.OneTurn.{plain, IsDue, before, then_task}
 use Rattle.perm_core.specs.Endings.{ByNothing}
@@ -38,7 +38,7 @@ module _ (u : UnitCode) (fits : ℕ → Bool) where
   pub left-stops : (b : Branch) (p : Blocks) (r : Task) (s : State) → Stops s → Stops (in_left b p r s)
   left-stops b p r s x = record {
     state = in_left b p r x.state;
-    run = lead_left (named Copies u) (memory u) fits b p r s x.state x.run;
+    run = lead-left (named Copies u) (memory u) fits b p r s x.state x.run;
     stopped = record {
       unended = refl;
       missing = λ o q. x.stopped.missing o
@@ -50,7 +50,7 @@ module _ (u : UnitCode) (fits : ℕ → Bool) where
   pub right-stops : (b : Branch) (p : Blocks) (l : Task) (f : Final Held) → final l ≡ Some f → (s : State) → Stops s → Stops (in_right b p l s)
   right-stops b p l f e s x = record {
     state = in_right b p l x.state;
-    run = lead_right (named Copies u) (memory u) fits b p l f e s x.state x.run;
+    run = lead-right (named Copies u) (memory u) fits b p l f e s x.state x.run;
     stopped = record {
       unended = refl;
       missing = λ o q. x.stopped.missing o
@@ -96,7 +96,7 @@ module _ (u : UnitCode) (fits : ℕ → Bool) where
 
       answers : (o : Op) (told : Held → Did Held Mark) → turns.turn tagged Copies u marks c st m.own ≡ Takes o told → (a : Answer Held) → find fits o m.heap ≡ a → AnswerStalls c st m o told a r → Stops x
       answers o told e Refused f q = absurd (let no : Full ≡ Stuck = sym q ∙ stuck in let z : ⊥ = cc no in z)
-      answers o told e Missing f q = here (record { unended = going_on; missing = λ p g. ap (λ z. find fits z m.heap) (some_inj (sym g ∙ looks (Takes o told) e)) ∙ f })
+      answers o told e Missing f q = here (record { unended = going_on; missing = λ p g. ap (λ z. find fits z m.heap) (some-inj (sym g ∙ looks (Takes o told) e)) ∙ f })
       answers o told e (Found v) f q =
           let y : State = record { task = then_task u fits c st m (told v); heap = after u fits o m.heap } in
           stops-along x y (one (named Copies u) (memory u) fits x y
@@ -106,7 +106,7 @@ module _ (u : UnitCode) (fits : ℕ → Bool) where
           ∙ ap (λ t. Some (record { task = told_to (named Copies u) b m.turns t (Some v); heap = after u fits o m.heap })) e)) (q stuck)
 
       asks : (t : Turn Held Mark Op) → turns.turn tagged Copies u marks c st m.own ≡ t → TurnStalls c st m t r → Stops x
-      asks NoTurn e q = here (record { unended = going_on; missing = λ o g. none_some (sym (looks NoTurn e) ∙ g) })
+      asks NoTurn e q = here (record { unended = going_on; missing = λ o g. none-some (sym (looks NoTurn e) ∙ g) })
       asks (Takes o told) e q = answers o told e (find fits o m.heap) refl q
 
   -- a step that is due spends a turn, if one is left

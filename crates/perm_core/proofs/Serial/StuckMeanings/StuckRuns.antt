@@ -8,9 +8,9 @@ use Rattle.perm_meaning.specs.NamedHeap.{Branch, Final, State, named, memory}
 use Rattle.perm_meaning.specs.Steps.{within, alone}
 use Rattle.perm_meaning.specs.Meaning.{Result, Well, Gave, Handed, Fails, Full, Stuck}
 use Rattle.perm_meaning.specs.Outcome.{RanStuck, outcome, reported, reported_result, opening, opening_heap, opening_need, opening_state}
-use Rattle.perm_meaning.proofs.LeftFirst.OneTurn.{at_empty}
+use Rattle.perm_meaning.proofs.LeftFirst.OneTurn.{at-empty}
 use Rattle.perm_meaning.proofs.LeftFirst.Reached.{Follows}
-use Rattle.perm_meaning.proofs.LeftFirst.WholeRun.{body_result, opening_follows, outcome_is}
+use Rattle.perm_meaning.proofs.LeftFirst.WholeRun.{body_result, opening-follows, outcome-is}
 use Rattle.perm_core.specs.Endings.{ByReturn}
 use Rattle.perm_core.proofs.Serial.StuckMeanings.CalledCodes.{AllReturn}
 use Rattle.perm_core.proofs.Serial.StuckMeanings.Results.{EndsBy, mean-by}
@@ -33,13 +33,13 @@ module _ (u : UnitCode) (all : AllReturn u) (limit : ℕ) (input : List ℤ) (tu
   -- the opening stops where the body of `Run` is stuck
   opening-stalls : Stalls u (within limit) (body_result u limit input turns r) (opening_state u input turns r)
   opening-stalls =
-      subst (λ (z : Branch). Stalls u (within limit) (body_result u limit input turns r) (record { task = Leaf z; heap = opening_heap u input })) (at_empty u r.code (opening u input turns r))
+      subst (λ (z : Branch). Stalls u (within limit) (body_result u limit input turns r) (record { task = Leaf z; heap = opening_heap u input })) (at-empty u r.code (opening u input turns r))
       (mean-stalls u (within limit) all turns ByReturn r.code (opening u input turns r) [] (le_refl turns) (all u.run r is))
 
   pub stuck-run : outcome u input turns limit ≡ RanStuck → Ends
   stuck-run stuck =
-      go (body_result u limit input turns r) (opening_follows u limit input turns r) (mean-by u (within limit) turns ByReturn r.code (opening u input turns r) (all u.run r is)) opening-stalls
-      (sym (outcome_is u limit input turns r is room) ∙ stuck)
+      go (body_result u limit input turns r) (opening-follows u limit input turns r) (mean-by u (within limit) turns ByReturn r.code (opening u input turns r) (all u.run r is)) opening-stalls
+      (sym (outcome-is u limit input turns r is room) ∙ stuck)
     where
       go : (z : Result) → Follows u (within limit) End [] turns (opening_state u input turns r) z → EndsBy ByReturn z → Stalls u (within limit) z (opening_state u input turns r) → reported_result turns z ≡ RanStuck → Ends
       go (Well m) f by x e = absurd by

@@ -1,5 +1,5 @@
-use Rattle.perm_meaning.proofs.LeftFirst.WholeRun.{ends_as_meaning, fills_as_meaning}
+use Rattle.perm_meaning.proofs.LeftFirst.WholeRun.{ends-as-meaning, fills-as-meaning}
 use Rattle.perm_meaning.proofs.laws.left_first.Goals as goal
 
 pub returns : goal.returns
-returns c = record { ends = ends_as_meaning; fills = fills_as_meaning }
+returns c = record { ends = ends-as-meaning; fills = fills-as-meaning }
