@@ -14,6 +14,7 @@ use Rattle.perm_perm.specs.Types.{fits}
 use Rattle.perm_tree.specs.Shapes.{same_shape}
 use Rattle.perm_rules.specs.declared.ParMode.{ParMode}
 use Rattle.perm_rules.specs.Parts.{Context, type_of, if_both_known, has_isolated}
+use Rattle.perm_rules.specs.Shapes.{taker_type}
 use Rattle.perm_rules.specs.Permissions.{call_type}
 use Rattle.perm_rules.specs.Pars.{uses, mode_of}
 use Rattle.perm_rules.specs.Goes.{Goes, hiding, context}
@@ -93,15 +94,10 @@ module _ (u : UnitCode) (labels : Labels) (h : Objects Name) where
   is_dropped None = true
   is_dropped (Some x) = false
 
-  -- the type of the variable of the caller that takes the result
-  abbrev pub taker_type : ℕ → Option ℕ → Option Ty
-  taker_type caller None = None
-  taker_type caller (Some x) = type_of (context_of u caller) x
-
   -- the result of an open call fits the variable that takes it, and nothing tied comes through a lent receiver
   abbrev pub result_fits : Tie → Ty → Option ℕ → ℕ → Bool
-  result_fits Lends t into caller = not (is_tied t) && (is_dropped into || if_both_known (Some t) (taker_type caller into) fits)
-  result_fits tie t into caller = is_dropped into || if_both_known (Some (call_type tie t)) (taker_type caller into) fits
+  result_fits Lends t into caller = not (is_tied t) && (is_dropped into || if_both_known (Some t) (taker_type (context_of u caller) into) fits)
+  result_fits tie t into caller = is_dropped into || if_both_known (Some (call_type tie t)) (taker_type (context_of u caller) into) fits
 
   -- the variables that are laid by in a stack, above which code of method m stands
   abbrev pub stack_fits : Way → Zone → ℕ → List (Frame Held) → Bool
