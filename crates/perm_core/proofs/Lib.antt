@@ -3,7 +3,6 @@ pub mod OpeningPicture
 pub mod Progress
 pub mod WordsShown
 pub mod KeepsPicture
-pub mod Sound
 pub mod Serial
 mod Examples
 pub mod Pieces

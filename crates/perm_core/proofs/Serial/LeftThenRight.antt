@@ -1,16 +1,16 @@
 -- Every complete list of events ends as running left then right does, where each event keeps the picture and some complete list ends so.
-use Rattle.std.proofs.Common.{◌≡◌, ◌≢◌, ℕ, Option, Some, None, List, [], refl, sym, ap, ◌∙◌}
+use Rattle.std.proofs.Common.{◌≡◌, ℕ, Option, Some, None, List, [], refl, sym, ap, ◌∙◌}
 use Rattle.std.specs.Prelude.{ℤ}
 use Rattle.perm_tree.specs.Code.{Routine, UnitCode}
-use Rattle.perm_meaning.specs.Values.{Number}
 use Rattle.perm_meaning.specs.Machine.{Way, NoRoom, NoTurns, Trapped, Fine, GaveBack, Failed, final}
-use Rattle.perm_meaning.specs.NamedHeap.{Heap, Held, Final, State}
+use Rattle.perm_meaning.specs.NamedHeap.{Heap, Final, State}
 use Rattle.perm_meaning.specs.Outcome.{Outcome, RanFull, outcome, reported, opening_state}
 use Rattle.perm_meaning.specs.Steps.{runs}
 use Rattle.perm_meaning.proofs.Leads.{some-inj, none-some}
+use Rattle.perm_meaning.proofs.LeftFirst.WholeRun.{given-not-full}
 use Rattle.perm_core.specs.Core.{step, told_of, core_outcome}
 use Rattle.perm_core.specs.NextPicture.{first_picture}
-use Rattle.perm_core.specs.Claims.{IsChecked, Opens, AllHaveNext}
+use Rattle.perm_core.specs.Claims.{IsChecked, Opens, ReachesPicture, AllHaveNext}
 use Rattle.perm_core.specs.Serial.{SomeRefused, EndsLeftThenRight, RefusedWhereFull}
 use Rattle.perm_core.proofs.Progress.NextEvents.{has-next}
 use Rattle.perm_core.proofs.OpeningPicture.{opens-with-picture}
@@ -21,11 +21,6 @@ use Rattle.perm_core.proofs.Serial.RoomKept.{roomy-ends, free-runs-room}
 use Rattle.perm_core.proofs.Serial.CompleteLists.{told-full, ends-alike}
 
 -- ---------- what is told of an ended root ----------
-given-not-full : (turns : ℕ) (v : Held) (t : ℕ) (p : List ℤ) (h : Heap) → reported turns (GaveBack v t p) h ≢ RanFull
-given-not-full turns None t p h e = absurd (cc)
-given-not-full turns (Some (Number n)) t p h e = absurd (cc)
-given-not-full turns (Some _) t p h e = absurd (cc)
-
 -- only want of room is told as a full heap
 pub reported-so : (turns : ℕ) (f : Final) (h : Heap) → reported turns f h ≡ RanFull → EndsFull f
 reported-so turns (Fine vs t p) h e = absurd (cc)
@@ -37,10 +32,7 @@ reported-so turns (Failed NoRoom t p) h e = refl
 module _ (u : UnitCode) (limit : ℕ) (input : List ℤ) (turns : ℕ) where
   -- ---------- pictures that are reached ----------
   -- every lawful list from the opening leads to a state with a picture
-  abbrev pub ReachesPicture : Type 0
-  ReachesPicture = (r : Routine) (ws : List Way) (t : State) → IsChecked u → Opens u limit input r → runs (step u limit) ws (opening_state u input turns r) ≡ Some t → HasPicture u t
-
-  pub reaches-picture : KeepsPictures u → ReachesPicture
+  pub reaches-picture : KeepsPictures u → ReachesPicture u limit input turns
   reaches-picture keeps r ws t checked opens e =
       runs-keep (step u limit) (HasPicture u) (pictured-next u checked keeps limit) ws (opening_state u input turns r) t (first_picture, opens-with-picture u limit input turns r checked opens) e
 

@@ -1,24 +1,24 @@
 -- Where each event keeps the picture, the core goes on left first until it has ended, as the meaning says.
-use Rattle.std.proofs.Common.{◌≡◌, ◌≢◌, ℕ, zero, suc, List, Option, Some, None, refl, sym, ap, ◌∙◌, subst}
+use Rattle.std.proofs.Common.{◌≡◌, ◌≢◌, ℕ, List, Option, Some, None, refl, sym, ap, ◌∙◌}
 use Rattle.std.specs.Prelude.{ℤ}
 use Rattle.perm_tree.specs.Code.{Routine, UnitCode}
 use Rattle.perm_meaning.specs.Machine.{Leaf, Fork, Way, Here, GoL, GoR, final, over, stage, if_both_over}
 use Rattle.perm_meaning.specs.Effects.{Tick}
-use Rattle.perm_meaning.specs.NamedHeap.{Branch, Final, Held, Op, State, Task, memory, find}
-use Rattle.perm_meaning.specs.Steps.{Answer, Found, Refused, Missing, within, alone, careful, granted, answered, asked, asked_with_care, leftmost, leftmost_of}
+use Rattle.perm_meaning.specs.NamedHeap.{Branch, Final, Op, State, Task, memory, find}
+use Rattle.perm_meaning.specs.Steps.{Refused, Missing, within, alone, answered, asked, leftmost, leftmost_of}
 use Rattle.perm_meaning.specs.Outcome.{RanFull, RanStuck, outcome, opening_state}
-use Rattle.perm_meaning.proofs.Leads.{some-inj, none-some, then-some}
+use Rattle.perm_meaning.proofs.Leads.{none-some}
 use Rattle.perm_meaning.proofs.MovesAndCopies.RunsBack.{IsLively, has_ended, has_event, StaysLively}
 use Rattle.perm_core.specs.Core.{core, look, step, core_outcome}
 use Rattle.perm_core.specs.Claims.{IsChecked, Opens, leaf_at, AllHaveNext}
 use Rattle.perm_core.specs.Regions.{Labels}
 use Rattle.perm_core.specs.Picture.{IsPicture}
-use Rattle.perm_core.specs.NextPicture.{first_picture, next_picture}
 use Rattle.perm_core.proofs.Serial.FreeRuns.{KeepsPictures}
+use Rattle.perm_core.proofs.Serial.LeftFirst.{alone-listed}
+use Rattle.perm_core.proofs.Serial.LeftThenRight.{reaches-picture}
 use Rattle.perm_core.proofs.Serial.LeftRuns.{left-first-comes, left-first-fills, meaning-unstuck}
 use Rattle.perm_core.proofs.Serial.ToldEnds.{left-first-told}
 use Rattle.perm_core.proofs.Progress.NextEvents.{has-next}
-use Rattle.perm_core.proofs.OpeningPicture.{opens-with-picture}
 
 module _ (u : UnitCode) where
   -- an event that asks what fulfils P
@@ -48,19 +48,6 @@ module _ (u : UnitCode) where
         go (Some o) q = (o, q, λ m. none-some (sym (ap (λ z. asked (core u) (memory u) (within limit) s w z) q ∙ ap (λ a. answered (core u) (memory u) (within limit) s w o a) m) ∙ e))
         go None q = none-some (sym (ap (λ z. asked (core u) (memory u) (within limit) s w z) q) ∙ e)
 
-    -- an event that is no refused allocation is an event
-    careful-steps : (s t : State) (w : Way) → careful (core u) (memory u) (within limit) s w ≡ Some t → step u limit s w ≡ Some t
-    careful-steps s t w e = asks (look u w s.task) e
-      where
-        answers : (o : Op) (a : Answer Held) → granted (core u) (memory u) (within limit) s w o a ≡ Some t → answered (core u) (memory u) (within limit) s w o a ≡ Some t
-        answers o (Found v) e = e
-        answers o Refused e = none-some e
-        answers o Missing e = none-some e
-
-        asks : (o : Option Op) → asked_with_care (core u) (memory u) (within limit) s w o ≡ Some t → asked (core u) (memory u) (within limit) s w o ≡ Some t
-        asks None e = none-some e
-        asks (Some o) e = answers o ((memory u).find (within limit) o s.heap) e
-
     -- a state with a picture has ended, or has an event next
     pub picture-lively : (labels : Labels) (s : State) → IsChecked u → IsPicture u labels s → IsLively u (within limit) s
     picture-lively labels s is picture = go (final s.task) refl
@@ -73,16 +60,12 @@ module _ (u : UnitCode) where
         go None q = let x = next-event (IsAnswered s) (λ m. let z : ⊥ = cc m in z) s.task (λ w b h k. let n = next w b h k in looked s n.0 w n.1) q in has_event x.1 x.2
 
     module _ (keeps : KeepsPictures u) (is : IsChecked u) where
-      -- so it is after each number of events, left first
-      stays-lively : (k : ℕ) (labels : Labels) (s t : State) → IsPicture u labels s → alone (core u) (memory u) (within limit) k s ≡ Some t → IsLively u (within limit) t
-      stays-lively zero labels s t picture e = subst (λ z. IsLively u (within limit) z) (some-inj e) (picture-lively labels s is picture)
-      stays-lively (suc k) labels s t picture e =
-          let x = then-some (careful (core u) (memory u) (within limit) s (leftmost s.task)) (alone (core u) (memory u) (within limit) k) t e in
-          stays-lively k (next_picture u limit labels s (leftmost s.task)) x.0 t (keeps limit labels s x.0 (leftmost s.task) is picture (careful-steps s x.0 (leftmost s.task) x.1)) x.2
-
       -- the core of a checked unit is never stuck, left first
       pub left-first-lively : (input : List ℤ) (turns : ℕ) (r : Routine) → Opens u limit input r → StaysLively u (within limit) (opening_state u input turns r)
-      left-first-lively input turns r o k t e = stays-lively k first_picture (opening_state u input turns r) t (opens-with-picture u limit input turns r is o) e
+      left-first-lively input turns r o k t e =
+          let l = alone-listed u limit k (opening_state u input turns r) t e in
+          let x = reaches-picture u limit input turns keeps r l.0 t is o l.1 in
+          picture-lively x.0 t is x.1
 
       -- nor is its meaning
       pub picture-unstuck : (input : List ℤ) (turns : ℕ) (r : Routine) → Opens u limit input r → outcome u input turns limit ≢ RanStuck

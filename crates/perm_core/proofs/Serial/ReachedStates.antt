@@ -8,9 +8,8 @@ use Rattle.perm_core.specs.WordCore as word_core
 use Rattle.perm_core.specs.Claims.{WordsDoNoMore}
 use Rattle.perm_core.specs.Reached.{IsReached, ReachesOpening, ReachesNext, ShowsPicture, TellsMeaning}
 use Rattle.perm_core.proofs.KeepsPicture.PictureEvents.{keeps-picture}
-use Rattle.perm_core.proofs.Sound.{reaches-picture}
 use Rattle.perm_core.proofs.WordsShown.{words-do-no-more}
-use Rattle.perm_core.proofs.Serial.LeftThenRight.{reaches-next}
+use Rattle.perm_core.proofs.Serial.LeftThenRight.{reaches-picture, reaches-next}
 use Rattle.perm_core.proofs.Serial.Needs.{runs-append}
 use Rattle.perm_core.proofs.Serial.WordsEnd.{Shows, shows-runs, shows-start, words-end}
 
@@ -38,7 +37,7 @@ module _ (u : UnitCode) (limit : ℕ) (input : List ℤ) (turns : ℕ) where
   pub picture-shown : ShowsPicture u limit input turns
   picture-shown t is =
       let x = shown t is in
-      let p = reaches-picture u limit input turns is.first x.events x.state is.checked is.opens.opens x.run in
+      let p = reaches-picture u limit input turns (λ n. keeps-picture u n) is.first x.events x.state is.checked is.opens.opens x.run in
       (p.0, x.state, p.1, (x.bases, x.shown))
 
   pub meaning-told : TellsMeaning u limit input turns

@@ -19,6 +19,12 @@ use Rattle.perm_meaning.proofs.LeftFirst.Serial.{mean-follows}
 passes : (a b : ℕ) → a ≤ b → nat_le a b ≡ true
 passes a b h = grind (arith, nat_tests)
 
+-- a value that is given back doesn't fill the heap
+pub given-not-full : (turns : ℕ) (v : Held) (t : ℕ) (p : List ℤ) (h : Heap) → reported turns (GaveBack v t p) h ≢ RanFull
+given-not-full turns None t p h e = absurd (cc)
+given-not-full turns (Some (Number n)) t p h e = absurd (cc)
+given-not-full turns (Some _) t p h e = absurd (cc)
+
 module _ (u : UnitCode) (limit : ℕ) (input : List ℤ) (turns : ℕ) where
   -- what the body of `Run` does
   abbrev pub body_result : Routine → Result
@@ -46,17 +52,11 @@ module _ (u : UnitCode) (limit : ℕ) (input : List ℤ) (turns : ℕ) where
   ends-from s Full f h k = absurd (k refl)
   ends-from s Stuck f h k = absurd (h refl)
 
-  -- a value that is given back doesn't fill the heap
-  given-not-full : (v : Held) (t : ℕ) (p : List ℤ) (h : Heap) → reported turns (GaveBack v t p) h ≢ RanFull
-  given-not-full None t p h e = absurd (cc)
-  given-not-full (Some (Number n)) t p h e = absurd (cc)
-  given-not-full (Some _) t p h e = absurd (cc)
-
   -- the allocation that is refused, found among the states of a run
   fills-from : (s : State) (r : Result) → Follows u (within limit) End [] turns s r → reported_result turns r ≡ RanFull
       → (n : ℕ) × (t : State) × (o : Op) × (alone (named Copies u) (memory u) (within limit) n s ≡ Some t) × (look (named Copies u) (leftmost t.task) t.task ≡ Some o) × (find (within limit) o t.heap ≡ Refused)
   fills-from s (Well m) f e = absurd (cc)
-  fills-from s (Gave v m) f e = absurd (given-not-full v m.turns m.own.printed m.heap e)
+  fills-from s (Gave v m) f e = absurd (given-not-full turns v m.turns m.own.printed m.heap e)
   fills-from s (Handed x v m) f e = absurd (cc)
   fills-from s (Fails (Trapped k at) t p h) f e = absurd (cc)
   fills-from s (Fails NoTurns t p h) f e = absurd (cc)
