@@ -427,14 +427,14 @@ fn longest(steps: &[Step]) -> u32
 {
     let mut most = 0;
     for step in steps {
-        most = most.max(operations_of(step.action));
+        most = most.max(operations_of(&step.action));
     }
     most
 }
 
 /// So many operations have the expressions of a step at most.
-fn operations_of(action: Action) -> u32
-    ensures { HasRoomForStep result action }
+fn operations_of(action: &Action) -> u32
+    ensures { HasRoomForStep result action.now }
 {
     match action {
         Action::Assign(_, a) | Action::StoreField(_, _, a) | Action::Return(a) => {
@@ -450,8 +450,8 @@ fn operations_of(action: Action) -> u32
     }
 }
 
-fn operations_in(a: Argument) -> u32
-    ensures { HasRoomForArgument result a }
+fn operations_in(a: &Argument) -> u32
+    ensures { HasRoomForArgument result a.now }
 {
     match a {
         Argument::Expression(e) => count_of(e),
@@ -459,11 +459,11 @@ fn operations_in(a: Argument) -> u32
     }
 }
 
-fn count_of(e: Expression) -> u32
-    ensures { HasRoomFor result e }
+fn count_of(e: &Expression) -> u32
+    ensures { HasRoomFor result e.now }
 {
     match e {
-        Expression::Operations(_, count) => count,
+        Expression::Operations(_, count) => *count,
         Expression::Operand(_) | Expression::Operation(_) => 0,
     }
 }

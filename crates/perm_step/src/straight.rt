@@ -152,11 +152,11 @@ fn runs_straight(
     held.push(Holds::Other)?;
     let mut at = bodies.entries.as_slice()[bodies.run as usize].first;
     loop {
-        let step = bodies.steps.as_slice()[at as usize];
-        match step.action {
+        let step = &bodies.steps.as_slice()[at as usize];
+        match &step.action {
             Action::Return(back) => return Ok(ends(&held, variables, back)),
             _ => {
-                if !may_come(&mut held, bodies, fields, step.action)? {
+                if !may_come(&mut held, bodies, fields, &step.action)? {
                     return Ok(false);
                 }
             }
@@ -170,35 +170,35 @@ fn may_come(
     held: &mut Vec<Holds>,
     bodies: &Bodies,
     fields: usize,
-    action: Action,
+    action: &Action,
 ) -> Result<bool, NoMemory>
-    requires { (u : UnitCode) × IsActionIn bodies.now u action }
-    ensures { IfOk result (λ yes. (variables : ℕ) → MayCome fields variables bodies.now held.old.items action held.new.items yes) }
+    requires { (u : UnitCode) × IsActionIn bodies.now u action.now }
+    ensures { IfOk result (λ yes. (variables : ℕ) → MayCome fields variables bodies.now held.old.items action.now held.new.items yes) }
 {
     match action {
         Action::NewObject(x, class, _) => {
-            if x as usize != held.len() || class != 0 {
+            if *x as usize != held.len() || *class != 0 {
                 return Ok(false);
             }
             held.push(Holds::AnObject)?;
             Ok(true)
         }
         Action::LoadField(x, y, f) => {
-            if x as usize != held.len() || !is_field(held, fields, y, f) {
+            if *x as usize != held.len() || !is_field(held, fields, *y, *f) {
                 return Ok(false);
             }
             held.push(Holds::ANumber)?;
             Ok(true)
         }
-        Action::StoreField(y, f, a) => Ok(is_field(held, fields, y, f) && is_number(a)),
+        Action::StoreField(y, f, a) => Ok(is_field(held, fields, *y, *f) && is_number(a)),
         Action::Print(e) => Ok(is_sum(held, bodies.operations.as_slice(), e)),
         _ => Ok(false),
     }
 }
 
 /// Whether all variables are declared, and a number is returned.
-fn ends(held: &[Holds], variables: usize, back: Argument) -> bool
-    ensures { (operations : List Operation) → IsWhether result ((length held.now ≡ variables) × IsNumberArgument (argument_of operations back)) }
+fn ends(held: &[Holds], variables: usize, back: &Argument) -> bool
+    ensures { (operations : List Operation) → IsWhether result ((length held.now ≡ variables) × IsNumberArgument (argument_of operations back.now)) }
 {
     held.len() == variables && is_number(back)
 }
@@ -221,8 +221,8 @@ fn is_held(held: &[Holds], x: u32, what: Holds) -> bool
 }
 
 /// Whether an argument is a number as it stands in a text.
-fn is_number(a: Argument) -> bool
-    ensures { (operations : List Operation) → IsWhether result (IsNumberArgument (argument_of operations a)) }
+fn is_number(a: &Argument) -> bool
+    ensures { (operations : List Operation) → IsWhether result (IsNumberArgument (argument_of operations a.now)) }
 {
     match a {
         Argument::Expression(e) => is_constant(e),
@@ -230,8 +230,8 @@ fn is_number(a: Argument) -> bool
     }
 }
 
-fn is_constant(e: Expression) -> bool
-    ensures { (operations : List Operation) → IsWhether result (IsNumber (expression_term operations e)) }
+fn is_constant(e: &Expression) -> bool
+    ensures { (operations : List Operation) → IsWhether result (IsNumber (expression_term operations e.now)) }
 {
     match e {
         Expression::Operand(a) => is_natural(a),
@@ -240,11 +240,11 @@ fn is_constant(e: Expression) -> bool
     }
 }
 
-fn is_natural(a: Operand) -> bool
-    ensures { IsWhether result (IsNumber (operand_term [] a)) }
+fn is_natural(a: &Operand) -> bool
+    ensures { IsWhether result (IsNumber (operand_term [] a.now)) }
 {
     match a {
-        Operand::Number(n) => is_at_least_0(&n),
+        Operand::Number(n) => is_at_least_0(n),
         _ => false,
     }
 }
@@ -256,15 +256,15 @@ fn is_at_least_0(n: &i64) -> bool
 }
 
 /// Whether an expression is a sum of variables that hold numbers.
-fn is_sum(held: &[Holds], operations: &[Operation], e: Expression) -> bool
-    requires { IsExpressionIn operations.now e }
-    ensures { IsWhether result (IsSum held.now (expression_term operations.now e)) }
+fn is_sum(held: &[Holds], operations: &[Operation], e: &Expression) -> bool
+    requires { IsExpressionIn operations.now e.now }
+    ensures { IsWhether result (IsSum held.now (expression_term operations.now e.now)) }
 {
     match e {
         Expression::Operand(a) => is_number_held(held, a),
-        Expression::Operation(o) => is_last_sum(held, &[o]),
+        Expression::Operation(o) => is_last_sum(held, &[*o]),
         Expression::Operations(first, count) => {
-            let run = &operations[first as usize..first as usize + count as usize];
+            let run = &operations[*first as usize..*first as usize + *count as usize];
             is_last_sum(held, run)
         }
     }
@@ -278,16 +278,16 @@ fn is_last_sum(held: &[Holds], run: &[Operation]) -> bool
 {
     let mut at = run.len() - 1;
     loop {
-        match run[at] {
+        match &run[at] {
             Operation::Binary(op, a, b) => {
-                if !is_plus(op) {
+                if !is_plus(*op) {
                     return false;
                 }
                 if !is_number_held(held, b) {
                     return false;
                 }
                 match a {
-                    Operand::Earlier(i) => at = i as usize,
+                    Operand::Earlier(i) => at = *i as usize,
                     _ => return is_number_held(held, a),
                 }
             }
@@ -306,11 +306,11 @@ fn is_plus(op: BinaryOp) -> bool
 }
 
 /// Whether an operand is a variable that holds a number.
-fn is_number_held(held: &[Holds], a: Operand) -> bool
-    ensures { IsWhether result (IsNumberVariable held.now a) }
+fn is_number_held(held: &[Holds], a: &Operand) -> bool
+    ensures { IsWhether result (IsNumberVariable held.now a.now) }
 {
     match a {
-        Operand::Local(x) => is_held(held, x, Holds::ANumber),
+        Operand::Local(x) => is_held(held, *x, Holds::ANumber),
         _ => false,
     }
 }
