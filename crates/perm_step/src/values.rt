@@ -5,7 +5,7 @@ ghost use Rattle.std.specs.Int.{CanDivide};
 ghost use mir.Syntax.{w64};
 ghost use Rattle.perm_tree.specs.BodyTerms.{expression_term, operand_term, operation_term, operation_terms, AreOrdered, IsExpressionIn, IsOperandBelow, IsOperationBelow};
 ghost use Rattle.perm_tree.specs.Code.{Term, NullLit};
-ghost use Rattle.perm_meaning.specs.Expressions.{eval, left_then_right, look_up, then_unary};
+ghost use Rattle.perm_meaning.specs.Expressions.{eval, look_up, then_unary};
 ghost use Rattle.perm_meaning.specs.Values as values;
 ghost use Rattle.perm_meaning.specs.Values.{Gives};
 ghost use Rattle.perm_meaning.specs.Words.{number_word, truth_word, value_word, words};
@@ -73,7 +73,7 @@ fn last_of(run: &[Operation], vars: &[u64], base: u32, values: &mut [Value]) -> 
     last
 }
 
-/// The value of an operation, by so many values of the operations before it, of which this is the last.
+/// The value of an operation, by so many values of the operations before it, of which this is the last. The right operand counts only where the left neither traps nor decides.
 #[inline(always)]
 fn operation(
     operation: &Operation,
@@ -89,8 +89,17 @@ fn operation(
     match operation {
         Operation::Unary(op, a) => unary(*op, operand(a, vars, base, values, count, last)),
         Operation::Binary(op, a, b) => {
-            let left = operand(a, vars, base, values, count, last);
-            binary(*op, left, operand(b, vars, base, values, count, last))
+            let left = match operand(a, vars, base, values, count, last) {
+                Value::Word(left) => left,
+                Value::Trap(kind) => return Value::Trap(kind),
+            };
+            if decides(*op, left) {
+                return Value::Word(left);
+            }
+            match operand(b, vars, base, values, count, last) {
+                Value::Word(right) => operate(*op, left, right),
+                Value::Trap(kind) => Value::Trap(kind),
+            }
         }
     }
 }
@@ -180,24 +189,6 @@ fn apply(op: UnaryOp, a: u64) -> Value
     match op {
         UnaryOp::Minus => number(0i64.wrapping_sub(a.cast_signed())),
         UnaryOp::Not => truth(a == 0),
-    }
-}
-
-/// An operator on what its operands come to. The right one counts only where the left neither traps nor decides.
-#[inline(always)]
-fn binary(op: BinaryOp, left: Value, right: Value) -> Value
-    ensures { as_eval result ≡ left_then_right words op (as_eval left) (as_eval right) }
-{
-    let a = match left {
-        Value::Word(a) => a,
-        Value::Trap(kind) => return Value::Trap(kind),
-    };
-    if decides(op, a) {
-        return left;
-    }
-    match right {
-        Value::Word(b) => operate(op, a, b),
-        Value::Trap(kind) => Value::Trap(kind),
     }
 }
 
