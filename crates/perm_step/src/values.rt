@@ -59,6 +59,7 @@ pub fn evaluate(
 }
 
 /// The value of the last of some operations, each of which may work on the values of those before it.
+#[inline(always)]
 fn last_of(run: &[Operation], vars: &[u64], base: u32, values: &mut [Value]) -> Value
     requires some { 1 ≤ length run.now }
     requires ordered { AreOrdered run.now }
