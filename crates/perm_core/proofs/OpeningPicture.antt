@@ -21,6 +21,7 @@ use Rattle.perm_meaning.specs.NamedHeap.{Held}
 use Rattle.perm_meaning.specs.Outcome.{opening_heap, opening_own, opening_state}
 use Rattle.perm_meaning.proofs.Leads.{some-inj, none-some}
 use Rattle.perm_meaning.proofs.SameName.{eq-itself, name-true, together}
+use Rattle.perm_meaning.specs.Claims.{Opens}
 use Rattle.perm_core.specs.Endings.{ByReturn, ends, is_settled}
 use Rattle.perm_rules.specs.Scoping.{is_scoped}
 use Rattle.perm_core.specs.Marked.{calls_right}
@@ -28,7 +29,7 @@ use Rattle.perm_core.specs.Whole.{IsWholeRoutine, IsRun}
 use Rattle.perm_core.specs.Regions.{Zone, Base, Absent, Frozen, OwnOf, Labels, is_absent}
 use Rattle.perm_core.specs.Picture.{context_if, context_of, value_fits, variable_fits, variables_fit, fields_fit, class_fits, is_number, object_fits, has_value, valued, code_right, MayGive, next, later, IsPicture}
 use Rattle.perm_core.specs.NextPicture.{first_picture}
-use Rattle.perm_core.specs.Claims.{IsChecked, Opens, OpensWithPicture}
+use Rattle.perm_core.specs.Claims.{IsChecked, OpensWithPicture}
 
 -- ---------- code ----------
 settled : (c : Code) → is_settled c [] ≡ true

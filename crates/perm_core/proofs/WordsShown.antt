@@ -20,10 +20,12 @@ use Rattle.perm_meaning.proofs.OnWords.OpeningShown.{opening_bases, opening-kept
 use Rattle.perm_meaning.proofs.OnWords.Related.{StageR, stage-alike, final-alike}
 use Rattle.perm_meaning.proofs.OnWords.WordsRun.{within-small, words-step}
 use Rattle.perm_meaning.specs.Outcome.{opening_state}
+use Rattle.perm_meaning.specs.Claims.{OpensOnWords}
+use Rattle.perm_core.specs.Whole.{IsWhole}
 use Rattle.perm_core.specs.Core.{core, look, step, runs}
 use Rattle.perm_core.specs.WordCore as word_core
 use Rattle.perm_core.specs.WordCore.{word_core as machine}
-use Rattle.perm_core.specs.Claims.{OpensOnWords, WordsShowRuns, WordsFollow, AllHaveNext, leaf_at}
+use Rattle.perm_core.specs.Claims.{WordsShowRuns, WordsFollow, AllHaveNext, leaf_at}
 
 module _ (u : UnitCode) (limit : ℕ) where
   -- ---------- from names to words ----------
@@ -38,10 +40,10 @@ module _ (u : UnitCode) (limit : ℕ) where
       on (Some next) q e go = go next (keeps-step Moves u uf (within limit) s next w k q) e
 
   pub words-follow : (input : List ℤ) (turns : ℕ) → WordsFollow u limit input turns
-  words-follow input turns r is ws s s' b t w e shown event =
-      let first = opening-kept u limit input turns r (routine-fits u.routines u.run r is.code is.opens.run) in
-      let k = kept is.code ws (opening_state u input turns r) s first e in
-      let x = words-step Moves u is.code (within limit) (within-small limit is.bases) b s s' t w k shown event in
+  words-follow input turns r whole is ws s s' b t w e shown event =
+      let first = opening-kept u limit input turns r (routine-fits u.routines u.run r whole.fits is.opens.run) in
+      let k = kept whole.fits ws (opening_state u input turns r) s first e in
+      let x = words-step Moves u whole.fits (within limit) (within-small limit is.bases) b s s' t w k shown event in
       record { after = x.1; event = x.2; bases = x.0; grown = x.3; shown = x.4 }
 
   -- from a state that is shown
@@ -60,9 +62,9 @@ module _ (u : UnitCode) (limit : ℕ) where
           (rest.0, ap (option_and_then (word_core.runs u limit ws)) x.2 ∙ rest.1, rest.2)
 
   pub words-show-runs : (input : List ℤ) (turns : ℕ) → WordsShowRuns u limit input turns
-  words-show-runs input turns r is ws s e =
-      run-shown is.code is.bases ws (opening_bases u input is.numbers) (opening_state u input turns r) s (worded.opening_state u input turns r)
-      (opening-kept u limit input turns r (routine-fits u.routines u.run r is.code is.opens.run))
+  words-show-runs input turns r whole is ws s e =
+      run-shown whole.fits is.bases ws (opening_bases u input is.numbers) (opening_state u input turns r) s (worded.opening_state u input turns r)
+      (opening-kept u limit input turns r (routine-fits u.routines u.run r whole.fits is.opens.run))
       (opening-shown u input is.numbers limit turns r is.opens.fits is.bases)
       e
 
@@ -106,11 +108,11 @@ module _ (u : UnitCode) (limit : ℕ) where
       by_look None q e = none-some e
       by_look (Some p) q e = (p, q)
 
-  pub words-do-no-more : (input : List ℤ) (turns : ℕ) (r : Routine) → OpensOnWords u limit input r → (ws : List Way) (s : State) (b : Bases) (t t' : worded.State) (w : Way)
+  pub words-do-no-more : (input : List ℤ) (turns : ℕ) (r : Routine) → IsWhole u → OpensOnWords u limit input r → (ws : List Way) (s : State) (b : Bases) (t t' : worded.State) (w : Way)
       → runs u limit ws (opening_state u input turns r) ≡ Some s → IsShownBy b s t → AllHaveNext u limit s → word_core.step u limit t w ≡ Some t'
       → (s' : State) × (step u limit s w ≡ Some s') × (c : Bases) × Grows b c × IsShownBy c s' t'
-  words-do-no-more input turns r is ws s b t t' w e shown all event =
+  words-do-no-more input turns r whole is ws s b t t' w e shown all event =
       let ask = asks t t' w event in
       let next = event-there s w all (goes b w s.task t.task ask.0 shown.task ask.1) in
-      let on = words-follow input turns r is ws s next.0 b t w e shown next.1 in
+      let on = words-follow input turns r whole is ws s next.0 b t w e shown next.1 in
       (next.0, next.1, on.bases, on.grown, subst (IsShownBy on.bases next.0) (some-inj (sym on.event ∙ event)) on.shown)

@@ -1,5 +1,5 @@
 -- What the laws of the core claim.
-use Rattle.std.specs.Prelude.{◌≡◌, ◌≢◌, ℕ, ◌*◌, ◌^◌, ◌<◌, ◌≤◌, false, ℤ, List, length, Option, Some, None, slice_get}
+use Rattle.std.specs.Prelude.{◌≡◌, ◌≢◌, ℕ, ◌*◌, ◌≤◌, false, ℤ, List, length, Option, Some, None}
 use Rattle.perm_tree.specs.Code.{Routine, UnitCode}
 use Rattle.perm_rules.specs.Goes.{IsAccepted}
 use Rattle.perm_meaning.specs.Machine.{Leaf, Fork, Way, Here, GoL, GoR, over, stage}
@@ -7,11 +7,11 @@ use Rattle.perm_meaning.specs.Effects.{Make}
 use Rattle.perm_meaning.specs.NamedHeap as named
 use Rattle.perm_meaning.specs.NamedHeap.{Op, Task, State, has_room}
 use Rattle.perm_meaning.specs.Steps.{within}
-use Rattle.perm_meaning.specs.Outcome.{opening_need, opening_state}
+use Rattle.perm_meaning.specs.Outcome.{opening_state}
+use Rattle.perm_meaning.specs.Claims.{Opens, OpensOnWords}
 use Rattle.perm_core.specs.Core.{look, step, runs, IsLawful, Conflict}
 use Rattle.perm_meaning.specs.WordHeap as worded
 use Rattle.perm_core.specs.WordCore as word_core
-use Rattle.perm_meaning.specs.Literals.{NumbersFit, UnitFits}
 use Rattle.perm_meaning.specs.Shows.{Bases, Grows, IsShown, IsShownBy}
 use Rattle.perm_core.specs.Whole.{IsWhole}
 use Rattle.perm_core.specs.Picture.{IsPicture}
@@ -31,15 +31,10 @@ leaf_at (GoR w) (Fork b p l r) = leaf_at w r
 leaf_at _ _ = None
 
 module _ (u : UnitCode) (limit : ℕ) where
-  -- the run on this input begins with the body of this method
-  pub record Opens (input : List ℤ) (r : Routine) : Type 0 where
-    pub run : slice_get u.routines u.run ≡ Some r
-    pub fits : opening_need u input ≤ limit
-
   -- ---------- the picture ----------
   -- the opening has a picture
   abbrev pub OpensWithPicture : List ℤ → ℕ → Type 0
-  OpensWithPicture input turns = (r : Routine) → IsChecked u → Opens input r → IsPicture u first_picture (opening_state u input turns r)
+  OpensWithPicture input turns = (r : Routine) → IsChecked u → Opens u limit input r → IsPicture u first_picture (opening_state u input turns r)
 
   -- each event leads from a state with a picture to one with the next picture
   abbrev pub KeepsPicture : Type 0
@@ -47,7 +42,7 @@ module _ (u : UnitCode) (limit : ℕ) where
 
   -- so each lawful list of events from the opening leads to a state with a picture
   abbrev pub ReachesPicture : List ℤ → ℕ → Type 0
-  ReachesPicture input turns = (r : Routine) (ws : List Way) (t : State) → IsChecked u → Opens input r → runs u limit ws (opening_state u input turns r) ≡ Some t → (labels : Labels) × IsPicture u labels t
+  ReachesPicture input turns = (r : Routine) (ws : List Way) (t : State) → IsChecked u → Opens u limit input r → runs u limit ws (opening_state u input turns r) ≡ Some t → (labels : Labels) × IsPicture u labels t
 
   -- a state with a picture has no conflict
   abbrev pub HasNoConflict : Type 0
@@ -81,16 +76,9 @@ module _ (u : UnitCode) (limit : ℕ) where
   FewEvents input turns = (r : Routine) (ws : List Way) → IsLawful u limit ws (opening_state u input turns r) → length ws ≤ 2 * turns
 
   -- ---------- words ----------
-  -- the run on this input begins with the body of this method, bases have 32 bits, and the numbers of the code and of the input have 64 bits
-  pub record OpensOnWords (input : List ℤ) (r : Routine) : Type 0 where
-    pub opens : Opens input r
-    pub bases : limit < 2 ^ 32
-    pub code : UnitFits u
-    pub numbers : NumbersFit input
-
   -- after each lawful list of events the core on words is in a state that shows the one of the core on names
   abbrev pub WordsShowRuns : List ℤ → ℕ → Type 0
-  WordsShowRuns input turns = (r : Routine) → OpensOnWords input r → (ws : List Way) (s : State) → runs u limit ws (opening_state u input turns r) ≡ Some s
+  WordsShowRuns input turns = (r : Routine) → IsWhole u → OpensOnWords u limit input r → (ws : List Way) (s : State) → runs u limit ws (opening_state u input turns r) ≡ Some s
       → (t : worded.State) × (word_core.runs u limit ws (worded.opening_state u input turns r) ≡ Some t) × IsShown s t
 
   -- the event of a node on words leads to a state that shows the one to which it leads on names
@@ -103,11 +91,11 @@ module _ (u : UnitCode) (limit : ℕ) where
 
   -- the core on words does what the core on names does, in each state that is reached from the opening
   abbrev pub WordsFollow : List ℤ → ℕ → Type 0
-  WordsFollow input turns = (r : Routine) → OpensOnWords input r → (ws : List Way) (s s' : State) (b : Bases) (t : worded.State) (w : Way)
+  WordsFollow input turns = (r : Routine) → IsWhole u → OpensOnWords u limit input r → (ws : List Way) (s s' : State) (b : Bases) (t : worded.State) (w : Way)
       → runs u limit ws (opening_state u input turns r) ≡ Some s → IsShownBy b s t → step u limit s w ≡ Some s' → Follows b t w s'
 
   -- and it does nothing else
   abbrev pub WordsDoNoMore : List ℤ → ℕ → Type 0
-  WordsDoNoMore input turns = (r : Routine) → IsChecked u → OpensOnWords input r → (ws : List Way) (s : State) (b : Bases) (t t' : worded.State) (w : Way)
+  WordsDoNoMore input turns = (r : Routine) → IsChecked u → OpensOnWords u limit input r → (ws : List Way) (s : State) (b : Bases) (t t' : worded.State) (w : Way)
       → runs u limit ws (opening_state u input turns r) ≡ Some s → IsShownBy b s t → word_core.step u limit t w ≡ Some t'
       → (s' : State) × (step u limit s w ≡ Some s') × (c : Bases) × Grows b c × IsShownBy c s' t'

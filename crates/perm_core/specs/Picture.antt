@@ -7,7 +7,7 @@ use Rattle.perm_tree.specs.declared.ast.Shape.TheVariants.{Class, Array}
 use Rattle.perm_tree.specs.declared.ast.Ty.{Ty}
 use Rattle.perm_tree.specs.declared.ast.Ty.TheVariants.{Long, Bool as Boolean, Ref}
 use Rattle.perm_tree.specs.Code.{Code, Routine, UnitCode, Tie, Shares, Raises, Lends}
-use Rattle.perm_tree.specs.CodeOf.{is_tied}
+use Rattle.perm_tree.specs.CodeNames.{is_tied}
 use Rattle.perm_tree.specs.Mentions.{mentioned}
 use Rattle.perm_tree.specs.Vars.{Vars, none, just, those, plus, minus, some_below}
 use Rattle.perm_perm.specs.Types.{fits}

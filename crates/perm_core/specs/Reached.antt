@@ -6,10 +6,11 @@ use Rattle.perm_meaning.specs.NamedHeap.{State}
 use Rattle.perm_meaning.specs.Outcome.{outcome}
 use Rattle.perm_meaning.specs.Shows.{IsShown}
 use Rattle.perm_meaning.specs.WordHeap as worded
+use Rattle.perm_meaning.specs.Claims.{OpensOnWords}
 use Rattle.perm_core.specs.WordCore as word_core
 use Rattle.perm_core.specs.Regions.{Labels}
 use Rattle.perm_core.specs.Picture.{IsPicture}
-use Rattle.perm_core.specs.Claims.{IsChecked, OpensOnWords}
+use Rattle.perm_core.specs.Claims.{IsChecked}
 use Rattle.perm_core.specs.Serial.{IsToldOnWords}
 
 module _ (u : UnitCode) (limit : ℕ) (input : List ℤ) (turns : ℕ) where

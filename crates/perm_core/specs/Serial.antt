@@ -14,9 +14,10 @@ use Rattle.perm_meaning.specs.Outcome.{Outcome, Report, Ran, RanFull, RanStuck, 
 use Rattle.perm_meaning.specs.Shows.{Bases, HeapShown}
 use Rattle.perm_meaning.specs.Told.{IsTold, told_end}
 use Rattle.perm_meaning.specs.WordHeap as worded
+use Rattle.perm_meaning.specs.Claims.{Opens, OpensOnWords}
 use Rattle.perm_core.specs.Core.{step, runs, IsComplete, core_outcome}
 use Rattle.perm_core.specs.WordCore as word_core
-use Rattle.perm_core.specs.Claims.{IsChecked, Opens, OpensOnWords, Refuses}
+use Rattle.perm_core.specs.Claims.{IsChecked, Refuses}
 
 module _ (u : UnitCode) (limit : ℕ) where
   -- an event of the list is a refused allocation

@@ -6,6 +6,7 @@ use Rattle.perm_tree.specs.declared.ast.Shape.TheVariants.{Class, Array}
 use Rattle.perm_tree.specs.declared.ast.Ty.{Ty}
 use Rattle.perm_tree.specs.declared.ast.Ty.TheVariants.{Long, Ref}
 use Rattle.perm_tree.specs.Code.{Routine, UnitCode}
+use Rattle.perm_meaning.specs.Literals.{UnitFits}
 use Rattle.perm_rules.specs.Goes.{context, first_live}
 use Rattle.perm_core.specs.Endings.{ByReturn, ends}
 use Rattle.perm_rules.specs.Scoping.{is_scoped}
@@ -32,9 +33,10 @@ pub record IsRun (u : UnitCode) (r : Routine) : Type 0 where
   pub params : r.params ≡ Ref Immutable Array ∷ []
   pub result : r.result ≡ Long
 
--- all methods are whole, the classes of all fields are there, and Main has its `Run`
+-- all methods are whole, the numbers in their code have 64 bits, the classes of all fields are there, and Main has its `Run`
 pub record IsWhole (u : UnitCode) : Type 0 where
   pub routines : (m : ℕ) (r : Routine) → slice_get u.routines m ≡ Some r → IsWholeRoutine u r
+  pub fits : UnitFits u
   pub fields : list_all (list_all (is_known_type u)) u.classes ≡ true
   pub main : u.main < length u.classes
   pub first : Routine

@@ -5,3 +5,4 @@ pub mod LeftFirst
 pub mod OnWords
 pub mod MovesAndCopies
 pub mod Examples
+pub mod UnitLiterals

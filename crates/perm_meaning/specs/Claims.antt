@@ -11,7 +11,7 @@ use Rattle.perm_meaning.specs.Objects.{size}
 use Rattle.perm_meaning.specs.WordHeap as on_words
 use Rattle.perm_meaning.specs.WordHeap.{Ask, worded}
 use Rattle.perm_meaning.specs.Shows.{Bases, HeapShown, IsShown}
-use Rattle.perm_meaning.specs.Literals.{NumbersFit, UnitFits}
+use Rattle.perm_meaning.specs.Literals.{NumbersFit}
 use Rattle.perm_meaning.specs.Told.{IsTold}
 
 -- the event of a holder, if it has one, is the leftmost of the tree that it holds
@@ -33,13 +33,16 @@ module _ (u : UnitCode) (limit : ℕ) where
   FillsAsMeaning input turns = (r : Routine) → slice_get u.routines u.run ≡ Some r → opening_need u input ≤ limit → outcome u input turns limit ≡ RanFull
       → (n : ℕ) × (s : State) × (o : Op) × AfterLeftFirst input turns r n s × (look (named Copies u) (leftmost s.task) s.task ≡ Some o) × (find (within limit) o s.heap ≡ Refused)
 
-  -- ---------- on words ----------
-  -- the run begins with the body of this method on a heap that holds its opening, whose bases have 32 bits, and the numbers of the code and of the input have 64 bits
-  pub record BeginsOnWords (input : List ℤ) (r : Routine) : Type 0 where
+  -- the run on this input begins with the body of this method, on a heap that holds its opening
+  pub record Opens (input : List ℤ) (r : Routine) : Type 0 where
     pub run : slice_get u.routines u.run ≡ Some r
     pub fits : opening_need u input ≤ limit
+
+  -- ---------- on words ----------
+  -- besides, bases have 32 bits, and the numbers of the input 64 bits
+  pub record OpensOnWords (input : List ℤ) (r : Routine) : Type 0 where
+    pub opens : Opens input r
     pub bases : limit < 2 ^ 32
-    pub code : UnitFits u
     pub numbers : NumbersFit input
 
   -- after so many events at the leftmost node, on words
@@ -48,7 +51,7 @@ module _ (u : UnitCode) (limit : ℕ) where
 
   -- left first, the machine on words goes step by step with the machine on names, and shows it, whichever way variables are handed on
   abbrev pub WordsShowNames : Custody → List ℤ → ℕ → Type 0
-  WordsShowNames c input turns = (r : Routine) → BeginsOnWords input r → (n : ℕ) (s : State) → alone (named c u) (memory u) (within limit) n (opening_state u input turns r) ≡ Some s
+  WordsShowNames c input turns = (r : Routine) → OpensOnWords input r → (n : ℕ) (s : State) → alone (named c u) (memory u) (within limit) n (opening_state u input turns r) ≡ Some s
       → (t : on_words.State) × AfterLeftFirstOnWords c input turns r n t × IsShown s t
 
   -- a run on words that has ended as a report tells; its heap shows the objects of the report, and the object of Main has the base that it began with
@@ -65,9 +68,9 @@ module _ (u : UnitCode) (limit : ℕ) where
 
   -- the machine on words, left first, ends as the meaning says
   abbrev pub WordsEndAsMeaning : List ℤ → ℕ → Type 0
-  WordsEndAsMeaning input turns = (r : Routine) (report : Report) → BeginsOnWords input r → outcome u input turns limit ≡ Ran report → EndsOnWords input turns r report
+  WordsEndAsMeaning input turns = (r : Routine) (report : Report) → OpensOnWords input r → outcome u input turns limit ≡ Ran report → EndsOnWords input turns r report
 
   -- where the heap doesn't hold the run, the machine on words, left first, comes to the allocation that is refused
   abbrev pub WordsFillAsMeaning : List ℤ → ℕ → Type 0
-  WordsFillAsMeaning input turns = (r : Routine) → BeginsOnWords input r → outcome u input turns limit ≡ RanFull
+  WordsFillAsMeaning input turns = (r : Routine) → OpensOnWords input r → outcome u input turns limit ≡ RanFull
       → (n : ℕ) × (t : on_words.State) × (o : Ask) × AfterLeftFirstOnWords Copies input turns r n t × (look (worded Copies u) (leftmost t.task) t.task ≡ Some o) × (on_words.find (within limit) o t.heap ≡ Refused)

@@ -37,7 +37,7 @@ meaning-orderly : (text : List ℕ) (tokens : List Token) (tree : Classes) → A
 meaning-orderly text tokens tree order spells is low =
     let p = meaning text tree in
     let fields = map (λ f. f.name.name) (flat_map (λ c. c.fields) p.classes) in
-    let bodies = flat_map mark_names (marks_of p) in
+    let bodies = mark_names (marks_of p) in
     record {
       words = meaning-words text tree;
       first = meaning-first text tree;

@@ -9,23 +9,25 @@ use Rattle.perm_tree.specs.declared.ast.Stmt.{Stmt}
 use Rattle.perm_tree.specs.declared.errors.TypeError.{TypeError}
 use Rattle.perm_tree.specs.declared.unit.VarInfo.{VarInfo}
 use Rattle.perm_tree.specs.Code.{Code, End, Return, Routine}
-use Rattle.perm_tree.specs.CodeOf.{Setting, setting, argument, stmt_code, block_code, code_of}
+use Rattle.perm_tree.specs.CodeNames.{Setting, setting, argument}
+use Rattle.perm_tree.specs.CodeOf.{stmt_code, block_code, code_of}
 use Rattle.perm_tree.specs.Places.{AllBelow, IsPlaced}
 use Rattle.perm_tree.specs.UnitTables.{Tables}
 use Rattle.perm_tree.specs.Vars.{Vars, those}
 use Rattle.perm_tree.proofs.MethodMarks.{method-class}
 use Rattle.perm_tree.proofs.TableLaws.{AllMethods, HasTable, tables_of-methods, routine-table}
-use Rattle.perm_rules.specs.AtPlace.{no_routine, vars_if, vars_at, setting_at, hidden_at, context_at, flow_unless, flow_then, flows_of, refusal_then}
+use Rattle.perm_tree.specs.InBody.{vars_if, vars_at, setting_at, method_if, method_at}
+use Rattle.perm_rules.specs.AtPlace.{no_routine, hidden_at, context_at, flow_unless, flow_then, flows_of, refusal_then}
 use Rattle.perm_rules.specs.Effects.{changed, effect}
 use Rattle.perm_rules.specs.FirstRefused.{entries, first_error, first_refused, or_later, method_refusal}
 use Rattle.perm_rules.specs.Goes.{hiding, context, first_live}
-use Rattle.perm_rules.specs.InBody.{method_if, method_at}
 use Rattle.perm_rules.specs.Laws.{RefusedByBody}
 use Rattle.perm_rules.specs.Parts.{Context}
 use Rattle.perm_rules.proofs.Refusals.ErrorLists.{first_error-append}
-use Rattle.perm_rules.proofs.Hiding.StandOnce.{holders-same, body-unheld}
-use Rattle.perm_rules.proofs.Hiding.Holders.{element-there, hidden-in-body}
-use Rattle.perm_rules.proofs.Hiding.Stretches.{Splits, stmt-splits, inner-below}
+use Rattle.perm_tree.proofs.StandOnce.{holders-same, body-unheld}
+use Rattle.perm_tree.proofs.HeldStatements.{element-there, inner-below}
+use Rattle.perm_rules.proofs.Hiding.Holders.{hidden-in-body}
+use Rattle.perm_rules.proofs.Hiding.Stretches.{Splits, stmt-splits}
 
 -- ---------- statements that are checked by one context ----------
 module _ (k : Setting) (placed : IsPlaced k.tables.program) (c : Context) where

@@ -3,7 +3,8 @@ use Rattle.std.proofs.Common.{◌≡◌, Bool, true, false, cond, length, refl, 
 use Rattle.std.specs.Prelude.{not, ◌&&◌, ◌||◌}
 use Rattle.perm_tree.specs.Vars.{Vars, below, IsWithin}
 use Rattle.perm_rules.specs.Effects.{changed, effect}
-use Rattle.perm_rules.specs.AtPlace.{vars_at, whole_effect_of}
+use Rattle.perm_tree.specs.InBody.{vars_at}
+use Rattle.perm_rules.specs.AtPlace.{whole_effect_of}
 use Rattle.perm_rules.specs.Laws.{GoesByEffect, LosesOrMakes, GoesFromMore, ChangesKnown}
 use Rattle.perm_rules.proofs.SetLaws.{changed-within}
 use Rattle.perm_rules.proofs.Fine.{fine-clear, fine-monotone}

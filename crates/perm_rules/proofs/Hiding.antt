@@ -1,5 +1,4 @@
 -- The law `places`: the entries of a statement of a method, with what is hidden at its place, stand among those of the method.
-pub mod StandOnce
 pub mod Holders
 pub mod Stretches
 use Rattle.std.proofs.Common.{◌≡◌, ℕ, zero, suc, ◌<◌, true, List, [], ◌∷◌, length, Some, refl, sym, ◌∙◌, ap, subst, arith}
@@ -11,29 +10,22 @@ use Rattle.perm_tree.specs.declared.ast.Method.{Method}
 use Rattle.perm_tree.specs.declared.unit.MethodTable.{MethodTable}
 use Rattle.perm_tree.specs.declared.unit.VarInfo.{VarInfo}
 use Rattle.perm_tree.specs.Code.{Code, End, Return, Routine}
-use Rattle.perm_tree.specs.CodeOf.{setting, argument, stmt_code, routine, code_of}
+use Rattle.perm_tree.specs.CodeNames.{setting, argument}
+use Rattle.perm_tree.specs.CodeOf.{stmt_code, routine, code_of}
 use Rattle.perm_tree.specs.Resolves.{IsResolved}
 use Rattle.perm_tree.specs.UnitTables.{Tables}
 use Rattle.perm_tree.specs.Vars.{those}
 use Rattle.perm_tree.proofs.MethodMarks.{method-class}
 use Rattle.perm_tree.proofs.TableLaws.{AllMethods, HasTable, IsTable, tables_of-methods, routine-table}
-use Rattle.perm_rules.specs.AtPlace.{no_routine, routine_at, vars_if, vars_at, hidden_by, context_at, stmt_code_at}
+use Rattle.perm_tree.specs.InBody.{vars_if, vars_at, places_with, all_within, body_if, method_if, IsStmtOf}
+use Rattle.perm_rules.specs.AtPlace.{no_routine, routine_at, hidden_by, context_at, stmt_code_at}
 use Rattle.perm_rules.specs.FirstRefused.{entries}
 use Rattle.perm_rules.specs.Goes.{hiding, context, first_live}
-use Rattle.perm_rules.specs.InBody.{places_with, all_within, body_if, method_if, IsStmtOf}
 use Rattle.perm_rules.specs.Laws.{HasStretch, PlaceContext}
-use Rattle.perm_rules.proofs.Hiding.StandOnce.{holders-same, body-unheld}
+use Rattle.perm_tree.proofs.StandOnce.{holders-same, body-unheld, those-contained}
 use Rattle.perm_rules.proofs.Hiding.Holders.{hidden-in-body}
-use Rattle.perm_rules.proofs.Hiding.Stretches.{inner-below, body-holds}
-
--- an element is listed
-pub those-contained : (xs : List ℕ) (i : ℕ) → Contains xs i → those xs i ≡ true
-those-contained xs i (k, within, is) = at xs k within is
-  where
-    at : (xs : List ℕ) (k : ℕ) → k < length xs → get_or xs k i ≡ i → those xs i ≡ true
-    at [] k within is = absurd (omega arith)
-    at (x ∷ xs) zero within is = or_left (nat_eq i x) (those xs i) (eq-eqb i x (sym is))
-    at (x ∷ xs) (suc k) within is = or_right (nat_eq i x) (those xs i) (at xs k (omega arith) is)
+use Rattle.perm_tree.proofs.HeldStatements.{inner-below}
+use Rattle.perm_rules.proofs.Hiding.Stretches.{body-holds}
 
 -- the same of a method by its table
 table-stretch : (u : Tables) (at : ℕ) (t : MethodTable) (d : Method) → IsResolved u → IsTable u.program t d → those (places_with (all_within u.program.stmts) d.body.stmts) at ≡ true

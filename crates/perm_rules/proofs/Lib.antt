@@ -12,5 +12,7 @@ pub mod Pars
 pub mod Modes
 pub mod PartOrder
 pub mod BodyFlows
+pub mod BodiesThere
+pub mod MethodStatements
 pub mod MethodsAtPlace
 mod Examples

@@ -11,7 +11,8 @@ use Rattle.perm_tree.specs.Places.{Listing}
 use Rattle.perm_tree.specs.Resolves.{IsResolved}
 use Rattle.perm_tree.specs.UnitTables.{Tables}
 use Rattle.perm_tree.proofs.TableLaws.{AllMethods, IsTable, tables_of-methods, routines_of-at}
-use Rattle.perm_rules.specs.AtPlace.{no_routine, routine_at, vars_if, vars_at, plain_context}
+use Rattle.perm_tree.specs.InBody.{vars_if, vars_at}
+use Rattle.perm_rules.specs.AtPlace.{no_routine, routine_at, plain_context}
 
 table-method : (p : Listing) (ts : List MethodTable) (m : ℕ) (t : MethodTable) → AllMethods p ts → slice_get ts m ≡ Some t → (d : Method) × IsTable p t d
 table-method p [] m t all here = absurd (let no : ⊥ = cc here in no)

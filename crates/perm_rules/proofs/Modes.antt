@@ -17,7 +17,8 @@ use Rattle.perm_tree.specs.declared.unit.MethodTable.{MethodTable}
 use Rattle.perm_tree.specs.declared.unit.VarInfo.{VarInfo}
 use Rattle.perm_tree.specs.Blocks.{rhs_blocks, kind_blocks, block_places}
 use Rattle.perm_tree.specs.Code.{Code, End, Give, Return, Routine}
-use Rattle.perm_tree.specs.CodeOf.{Setting, setting, argument, var_at, own_vars, assignment, kind_code, codes_of, stmt_code, block_code, routine, code_of}
+use Rattle.perm_tree.specs.CodeNames.{Setting, setting, argument, var_at, own_vars}
+use Rattle.perm_tree.specs.CodeOf.{assignment, kind_code, codes_of, stmt_code, block_code, routine, code_of}
 use Rattle.perm_tree.specs.Lookup.{method_of}
 use Rattle.perm_tree.specs.Places.{AllBelow, RhsPlaced, KindPlaced, IsPlaced}
 use Rattle.perm_tree.specs.Resolves.{IsResolved}
@@ -27,18 +28,16 @@ use Rattle.perm_tree.specs.Vars.{Vars, those}
 use Rattle.perm_tree.proofs.CodeLaws.{stmt_code-is}
 use Rattle.perm_tree.proofs.MethodMarks.{method-class}
 use Rattle.perm_tree.proofs.TableLaws.{AllMethods, tables_of-methods, routines_of-at}
-use Rattle.perm_rules.specs.AtPlace.{no_routine, routine_at, vars_if, setting_at, plain_context, uses_of, sets_of, mode_unless}
+use Rattle.perm_tree.specs.InBody.{vars_if, setting_at, inner_places, places_with, all_within, body_if, method_if, IsStmtOf}
+use Rattle.perm_rules.specs.AtPlace.{no_routine, routine_at, plain_context, uses_of, sets_of, mode_unless}
 use Rattle.perm_rules.specs.Goes.{context}
-use Rattle.perm_rules.specs.InBody.{inner_places, places_with, all_within, body_if, method_if, IsStmtOf}
 use Rattle.perm_rules.specs.Laws.{ModeByWrites}
 use Rattle.perm_rules.specs.Pars.{par_shared, par_permission, mode_of}
 use Rattle.perm_rules.specs.Parts.{Context, ParHead}
 use Rattle.perm_rules.specs.Refusals.{refusal}
 use Rattle.perm_rules.specs.Sharing.{SharesPlainly, AllSharePlainly}
-use Rattle.perm_rules.proofs.Hiding.{those-contained}
-use Rattle.perm_rules.proofs.Hiding.StandOnce.{those-parts, holders-same}
-use Rattle.perm_rules.proofs.Hiding.Holders.{element-there, opened, within-at}
-use Rattle.perm_rules.proofs.Hiding.Stretches.{inner-below, else-below, else-places, places-parts}
+use Rattle.perm_tree.proofs.StandOnce.{those-contained, those-parts, holders-same}
+use Rattle.perm_tree.proofs.HeldStatements.{element-there, else-below, else-places, inner-below, opened, places-parts, within-at}
 use Rattle.perm_rules.proofs.Pars.{IsResolved-shares}
 
 -- ---------- statements within others ----------
@@ -142,13 +141,13 @@ module _ (k : Setting) (c : Context) (placed : IsPlaced k.tables.program)
   stmts-share : (n : ℕ) → n ≤ length stmts → (j : ℕ) → j < n → StmtShares j
   stmts-share zero room j less at rest e all = absurd (omega arith)
   stmts-share (suc n) room j less at rest e all =
-      let o = opened stmts inner one j at e in
+      let o = opened stmts inner j at e in
       go o.stmt o.here (block-shares j at (omega arith) (λ i small. stmts-share n (omega arith) i (omega arith)))
     where
       go : (s : Stmt) → slice_get stmts j ≡ Some s → BlockShares j at → Shares at
       go s here blocks =
           kind-shares j at s rest blocks (length k.tables.program.exprs) s.kind (placed.stmts j s here)
-          (subst (λ xs. those xs at ≡ true) (within-at stmts inner one j s here) e)
+          (subst (λ xs. those xs at ≡ true) (within-at stmts inner j s here) e)
           (of-kind j s rest here all)
 
   -- the two blocks of a par in some statements or within them share plainly, where all of these do
@@ -175,7 +174,7 @@ pub record Stands (u : Tables) (m at : ℕ) : Type 0 where
   pub is : method_of u.program table ≡ Some «method»
   pub inside : those (places_with (all_within u.program.stmts) «method».body.stmts) at ≡ true
 
-stands-in : (u : Tables) (m at : ℕ) → IsStmtOf u m at → Stands u m at
+pub stands-in : (u : Tables) (m at : ℕ) → IsStmtOf u m at → Stands u m at
 stands-in u m at inside = by-table (slice_get u.tables m) refl inside
   where
     by-method : (t : MethodTable) (o : Option Method) → slice_get u.tables m ≡ Some t → method_of u.program t ≡ o → Contains (places_with (all_within u.program.stmts) (body_if o)) at → Stands u m at

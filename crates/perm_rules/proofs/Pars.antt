@@ -20,7 +20,8 @@ use Rattle.perm_tree.specs.declared.ast.Stmt.{Stmt}
 use Rattle.perm_tree.specs.declared.unit.MethodTable.{MethodTable}
 use Rattle.perm_tree.specs.declared.unit.VarInfo.{VarInfo}
 use Rattle.perm_tree.specs.Code.{Return, Routine}
-use Rattle.perm_tree.specs.CodeOf.{Setting, setting, argument, codes_of, routine, code_of}
+use Rattle.perm_tree.specs.CodeNames.{Setting, setting, argument}
+use Rattle.perm_tree.specs.CodeOf.{codes_of, routine, code_of}
 use Rattle.perm_tree.specs.Nesting.{IsInScope, AreNested}
 use Rattle.perm_tree.specs.Places.{AllBelow}
 use Rattle.perm_tree.specs.Resolves.{IsResolved, unmentioned}
@@ -106,7 +107,7 @@ pub record CodeTold (u : Tables) (r : Routine) : Type 0 where
   pub scoped : is_scoped (context (code_of u) r) r.code (first_live r) ≡ true
 
 -- ---------- methods ----------
-module _ (u : Tables) (t : MethodTable) (d : Method) (is : IsResolved u) (apart : AreApart t.vars) (table : IsTable u.program t d) where
+module _ (u : Tables) (t : MethodTable) (d : Method) (is : IsResolved u) (apart : AreApart t.vars) (table : IsTable u.program t d) (others : List Mark) where
   abbrev stmts : List Stmt
   stmts = u.program.stmts
 
@@ -123,7 +124,7 @@ module _ (u : Tables) (t : MethodTable) (d : Method) (is : IsResolved u) (apart 
   c = context (code_of u) (routine u t d)
 
   abbrev back : List Mark
-  back = arg_marks exprs d.back (ends d.span.end ∷ [])
+  back = arg_marks exprs d.back (ends d.span.end ∷ others)
 
   terms : AllTermsStand k.vars exprs k.terms
   terms = exprs-stand k.vars [] [] u.program.exprs tt
@@ -191,7 +192,7 @@ module _ (u : Tables) (t : MethodTable) (d : Method) (is : IsResolved u) (apart 
     method-tells rise below =
         let body_told = block-told every from d.body.stmts back below (le_refl from) rise in
         let last = block_end stmts from d.body.stmts in
-        let end : IsRising last (ends d.span.end ∷ []) = arg-passes exprs (exprs-pass [] u.program.exprs tt) d.back last (ends d.span.end ∷ []) body_told.rise in
+        let end : IsRising last (ends d.span.end ∷ others) = arg-passes exprs (exprs-pass [] u.program.exprs tt) d.back last (ends d.span.end ∷ others) body_told.rise in
         let walks = (body_told.tells d.span.end end.0 (record { had = had; all = λ y v here. whole last y v here })).walks in
         record { shares = walks.pars (Return d.span (argument k d.back)) tt; scoped = walks.scoped (Return d.span (argument k d.back)) (first_live (routine u t d)) first-begins (λ V behind. refl) }
       where
@@ -207,11 +208,12 @@ table-tells : (u : Tables) (at : ℕ) (t : MethodTable) (d : Method) → IsResol
     → CodeTold u (routine u t d)
 table-tells u at t d is there table =
     let «method» = IsResolved-method u t d is table.0 in
-    go «method».0.0 (params-behind (suc d.name.span.start) d.params (block_marks (all_stmt_marks u.program.exprs u.program.stmts) d.body.stmts (arg_marks (all_expr_marks u.program.exprs) d.back (ends d.span.end ∷ []))) «method».1.1)
+    let others = «method».1.rest in
+    go others «method».0.0 (params-behind (suc d.name.span.start) d.params (block_marks (all_stmt_marks u.program.exprs u.program.stmts) d.body.stmts (arg_marks (all_expr_marks u.program.exprs) d.back (ends d.span.end ∷ others))) «method».1.rise.1)
   where
-    go : AllBelow (length u.program.stmts) d.body.stmts → Behind (suc d.name.span.start) d.params (block_marks (all_stmt_marks u.program.exprs u.program.stmts) d.body.stmts (arg_marks (all_expr_marks u.program.exprs) d.back (ends d.span.end ∷ [])))
+    go : (others : List Mark) → AllBelow (length u.program.stmts) d.body.stmts → Behind (suc d.name.span.start) d.params (block_marks (all_stmt_marks u.program.exprs u.program.stmts) d.body.stmts (arg_marks (all_expr_marks u.program.exprs) d.back (ends d.span.end ∷ others)))
         → CodeTold u (routine u t d)
-    go placed b = method-tells u t d is (apart-names u at t is there) table (all-at (λ (t : MethodTable). AreNested t.vars) u.tables at t (IsResolved-nested u is) there) b.from b.low b.all b.rise placed
+    go others placed b = method-tells u t d is (apart-names u at t is there) table others (all-at (λ (t : MethodTable). AreNested t.vars) u.tables at t (IsResolved-nested u is) there) b.from b.low b.all b.rise placed
 
 -- ---------- units ----------
 -- so it is of the code with a number

@@ -1,10 +1,9 @@
--- The law `order`: the parts of a method of a unit stand in the order of the text.
+-- The law `order`: the parts of a unit stand in the order of the text, within each method and from each method to the next.
 use Rattle.std.proofs.Common.{◌≡◌, ℕ, zero, suc, ◌<◌, ◌≤◌, List, [], ◌∷◌, ◌++◌, length, Some, refl, sym, ◌∙◌, ap, subst, arith, get_or, map, append_assoc, append-nil, le_refl}
-use Rattle.std.specs.Prelude.{slice_get}
+use Rattle.std.specs.Prelude.{flat_map, slice_get}
 use Rattle.std.proofs.Math.ListN.{get_or-append}
 use Rattle.std.proofs.lemmas.List.{map-append}
 use Rattle.perm_tree.specs.declared.ast.Block.{Block}
-use Rattle.perm_tree.specs.declared.ast.FieldDecl.{FieldDecl}
 use Rattle.perm_tree.specs.declared.ast.Method.{Method}
 use Rattle.perm_tree.specs.declared.ast.Rhs.{Rhs}
 use Rattle.perm_tree.specs.declared.ast.Rhs.TheVariants.{Value, Field, TakeField as TakeRhs, Item, New, NewArray as NewArrayRhs, Call as CallRhs, Recover as RecoverRhs}
@@ -12,26 +11,28 @@ use Rattle.perm_tree.specs.declared.ast.Stmt.{Stmt}
 use Rattle.perm_tree.specs.declared.ast.StmtKind.{StmtKind}
 use Rattle.perm_tree.specs.declared.ast.StmtKind.TheVariants.{Declare as DeclareStmt, Assign as AssignStmt, SetField, SetItem, Call as CallStmt, Print as PrintStmt, If as IfStmt, While as WhileStmt, Par as ParStmt}
 use Rattle.perm_tree.specs.declared.unit.MethodTable.{MethodTable}
-use Rattle.perm_tree.specs.Code.{Code, End, Give, Return, Routine}
-use Rattle.perm_tree.specs.CodeOf.{Setting, setting, argument, var_at, assignment, kind_code, codes_of, stmt_code, block_code, routine, code_of}
+use Rattle.perm_tree.specs.Code.{Code, End, Give, Return, Routine, UnitCode}
+use Rattle.perm_tree.specs.CodeNames.{Setting, setting, argument, var_at}
+use Rattle.perm_tree.specs.CodeOf.{assignment, kind_code, codes_of, stmt_code, block_code, routine, routine_if, routines_of, code_of}
 use Rattle.perm_tree.specs.Lookup.{method_of}
 use Rattle.perm_tree.specs.Places.{AllBelow, RhsPlaced, KindPlaced, IsPlaced}
 use Rattle.perm_tree.specs.Resolves.{IsResolved}
 use Rattle.perm_tree.specs.Scopes.{else_stmts}
-use Rattle.perm_tree.specs.TextOrder.{Mark, names, ends, IsRising, Marks, all_expr_marks, marks_at, arg_marks, block_marks, rhs_marks, kind_marks, stmt_marks, all_stmt_marks, params_marks}
+use Rattle.perm_tree.specs.TextOrder.{Mark, names, ends, IsRising, Marks, all_expr_marks, marks_at, arg_marks, block_marks, rhs_marks, kind_marks, stmt_marks, all_stmt_marks, params_marks, method_marks, methods_marks, methods_of}
 use Rattle.perm_tree.specs.UnitTables.{Tables}
 use Rattle.perm_tree.specs.Vars.{Vars}
 use Rattle.perm_tree.proofs.CodeLaws.{stmt_code-is}
 use Rattle.perm_tree.proofs.Entries.{entries_of-at}
-use Rattle.perm_tree.proofs.MethodMarks.{IsResolved-method}
-use Rattle.perm_tree.proofs.Passing.{rising-less, Passes, AllPass, past-name, pass-at, exprs-pass, arg-passes, call-passes}
-use Rattle.perm_tree.proofs.TableLaws.{AllMethods, HasTable, tables_of-methods, routine-table}
-use Rattle.perm_rules.specs.FirstRefused.{Entry, entries}
+use Rattle.perm_tree.proofs.MethodMarks.{MethodRises, IsResolved-method}
+use Rattle.perm_tree.proofs.Passing.{rising-less, AllPass, past-name, pass-at, exprs-pass, arg-passes, call-passes, params-pass}
+use Rattle.perm_tree.proofs.TableLaws.{AllMethods, AreTables, HasTable, tables_of-are, tables_of-methods, routine-table}
+use Rattle.perm_rules.proofs.Refusals.ErrorLists.{first_error-append}
+use Rattle.perm_rules.specs.FirstRefused.{Entry, entries, method_entries, first_error, or_later, method_refusal, methods_refusal}
 use Rattle.perm_rules.specs.Goes.{context, first_live}
-use Rattle.perm_rules.specs.Laws.{PartsInOrder}
+use Rattle.perm_rules.specs.Laws.{PartsInOrder, UnitInOrder, RefusedAtFirst}
 use Rattle.perm_rules.specs.Parts.{Context}
-use Rattle.perm_rules.proofs.Hiding.Holders.{element-there}
-use Rattle.perm_rules.proofs.Hiding.Stretches.{Splits, stmt-splits, else-below}
+use Rattle.perm_tree.proofs.HeldStatements.{element-there, else-below}
+use Rattle.perm_rules.proofs.Hiding.Stretches.{Splits, stmt-splits}
 
 -- ---------- marks ----------
 -- what stands behind doesn't change the marks of a block whose statements stand before
@@ -189,33 +190,46 @@ module _ (k : Setting) (placed : IsPlaced k.tables.program) where
   body-ordered = block-ordered (length stmts) (le_refl (length stmts)) (stmts-ordered (length stmts) (le_refl (length stmts)))
 
 -- ---------- methods ----------
-params-pass : (fs : List FieldDecl) → Passes (params_marks fs)
-params-pass [] lo rest rise = rise
-params-pass (f ∷ fs) lo rest rise = params-pass fs lo rest (past-name f.name lo (params_marks fs rest) rise)
+module _ (u : Tables) (is : IsResolved u) where
+  -- where the marks of a method and others behind them rise, so do the ends of its parts and what follows the others
+  method-ordered : (t : MethodTable) (d : Method) → method_of u.program t ≡ Some d → (lo : ℕ) (rest behind : List Mark) → Follow rest behind → IsRising lo (method_marks u.program.exprs u.program.stmts d rest)
+      → IsRising lo (ends_of (method_entries (code_of u) (routine u t d)) ++ behind)
+  method-ordered t d there lo rest behind follow rise =
+      let exprs : List Marks = all_expr_marks u.program.exprs in
+      let marks : List Marks = all_stmt_marks u.program.exprs u.program.stmts in
+      let back : List Mark = arg_marks exprs d.back (ends d.span.end ∷ rest) in
+      body-ordered (setting u t.vars) is.formed.placed d.body.stmts (IsResolved-method u t d is there).0.0 (Return d.span (argument (setting u t.vars) d.back)) (context (code_of u) (routine u t d)) (first_live (routine u t d)) lo back behind
+      (λ K hi q. let last = arg-passes exprs (exprs-pass [] u.program.exprs tt) d.back hi (ends d.span.end ∷ rest) q in (last.0, follow d.span.end last.1))
+      (params-pass d.params lo (block_marks marks d.body.stmts back) (past-name d.name lo (params_marks d.params (block_marks marks d.body.stmts back)) rise))
 
--- where the marks of a method and others behind them rise, so do the ends of its parts and what follows the others: so lists of methods may be walked one behind the other
-pub method-ordered : (u : Tables) (t : MethodTable) (d : Method) → IsResolved u → method_of u.program t ≡ Some d → (lo : ℕ) (rest behind : List Mark) → Follow rest behind
-    → IsRising lo (names d.name ∷ params_marks d.params (block_marks (all_stmt_marks u.program.exprs u.program.stmts) d.body.stmts (arg_marks (all_expr_marks u.program.exprs) d.back (ends d.span.end ∷ rest))))
-    → IsRising lo (ends_of (entries (context (code_of u) (routine u t d)) (routine u t d).code (first_live (routine u t d))) ++ behind)
-method-ordered u t d is there lo rest behind follow rise =
-    body-ordered (setting u t.vars) is.formed.placed d.body.stmts (IsResolved-method u t d is there).0.0 (Return d.span (argument (setting u t.vars) d.back)) (context (code_of u) (routine u t d)) (first_live (routine u t d)) lo back behind
-    (λ K hi q. let last = arg-passes exprs (exprs-pass [] u.program.exprs tt) d.back hi (ends d.span.end ∷ rest) q in (last.0, follow d.span.end last.1))
-    (params-pass d.params lo (block_marks marks d.body.stmts back) (past-name d.name lo (params_marks d.params (block_marks marks d.body.stmts back)) rise))
-  where
-    marks : List Marks
-    marks = all_stmt_marks u.program.exprs u.program.stmts
+  -- so it is of methods with their tables, one behind the other
+  methods-ordered : (ts : List MethodTable) (ds : List Method) → AreTables u.program ts ds → (lo : ℕ) → IsRising lo (methods_marks u.program.exprs u.program.stmts ds []) → IsRising lo (ends_of (flat_map (method_entries (code_of u)) (routines_of u ts)))
+  methods-ordered [] [] are lo rise = tt
+  methods-ordered [] (d ∷ ds) are lo rise = absurd are
+  methods-ordered (t ∷ ts) [] are lo rise = absurd are
+  methods-ordered (t ∷ ts) (d ∷ ds) are lo rise =
+      let here : List Entry = method_entries (code_of u) (routine u t d) in
+      let later : List Entry = flat_map (method_entries (code_of u)) (routines_of u ts) in
+      subst (λ o. IsRising lo (ends_of (flat_map (method_entries (code_of u)) (routine_if u t o ++ routines_of u ts)))) (sym are.0.0)
+      (subst (IsRising lo) (sym (map-append (λ (e : Entry). ends e.at.end) here later))
+      (method-ordered t d are.0.0 lo (methods_marks u.program.exprs u.program.stmts ds []) (ends_of later) (λ hi r. methods-ordered ts ds are.1 hi r) rise))
 
-    exprs : List Marks
-    exprs = all_expr_marks u.program.exprs
-
-    back : List Mark
-    back = arg_marks exprs d.back (ends d.span.end ∷ rest)
+-- ---------- units ----------
+pub unit-in-order : UnitInOrder
+unit-in-order u is = methods-ordered u is u.tables (methods_of u.program) (subst (λ ts. AreTables u.program ts (methods_of u.program)) (sym is.tables) (tables_of-are u.program)) 0 is.formed.orderly.ordered
 
 pub parts-in-order : PartsInOrder
 parts-in-order u m r is here = by-table (routine-table u u.tables m r (subst (AllMethods u.program) (sym is.tables) (tables_of-methods u.program)) here)
   where
-    by-table : HasTable u u.tables m r → IsRising 0 (map (λ e. ends e.at.end) (entries (context (code_of u) r) r.code (first_live r)))
+    by-table : HasTable u u.tables m r → IsRising 0 (ends_of (method_entries (code_of u) r))
     by-table (t, d, there, table, same) =
-        subst (λ (q : Routine). IsRising 0 (map (λ e. ends e.at.end) (entries (context (code_of u) q) q.code (first_live q)))) same
-        (subst (IsRising 0) (append-nil (ends_of (entries (context (code_of u) (routine u t d)) (routine u t d).code (first_live (routine u t d)))))
-        (method-ordered u t d is table.0 0 [] [] (λ hi q. q) (IsResolved-method u t d is table.0).1))
+        let rises : MethodRises u.program.exprs u.program.stmts d = (IsResolved-method u t d is table.0).1 in
+        subst (λ (q : Routine). IsRising 0 (ends_of (method_entries (code_of u) q))) same
+        (subst (IsRising 0) (append-nil (ends_of (method_entries (code_of u) (routine u t d)))) (method-ordered u is t d table.0 0 rises.rest [] (λ hi q. tt) rises.rise))
+
+methods-at-first : (u : UnitCode) (rs : List Routine) → methods_refusal u rs ≡ first_error (flat_map (method_entries u) rs)
+methods-at-first u [] = refl
+methods-at-first u (r ∷ rs) = ap (or_later (method_refusal u r)) (methods-at-first u rs) ∙ sym (first_error-append (method_entries u r) (flat_map (method_entries u) rs))
+
+pub refused-at-first : RefusedAtFirst
+refused-at-first u = methods-at-first u u.routines

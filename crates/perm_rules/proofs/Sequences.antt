@@ -9,7 +9,8 @@ use Rattle.perm_tree.specs.declared.ast.StmtKind.TheVariants.{Declare as Declare
 use Rattle.perm_tree.specs.declared.ast.Rhs.{Rhs}
 use Rattle.perm_tree.specs.declared.ast.Rhs.TheVariants.{Value, Field, TakeField as TakeRhs, Item, New, NewArray as NewArrayRhs, Call as CallRhs, Recover as RecoverRhs}
 use Rattle.perm_tree.specs.Code.{Term, Instruction, Code, End, Do, If, While, Par, Recover}
-use Rattle.perm_tree.specs.CodeOf.{Setting, assignment, kind_code, codes_of, stmt_code, block_code}
+use Rattle.perm_tree.specs.CodeNames.{Setting}
+use Rattle.perm_tree.specs.CodeOf.{assignment, kind_code, codes_of, stmt_code, block_code}
 use Rattle.perm_tree.specs.Places.{IsPlaced}
 use Rattle.perm_tree.specs.Vars.{Vars, minus}
 use Rattle.perm_tree.proofs.CodeLaws.{stmt_code-is, block_code-cons}

@@ -1,5 +1,5 @@
 -- The rules for a method, a statement or a block that is named by its place in a unit.
-use Rattle.std.specs.Prelude.{ℕ, true, List, [], ◌∷◌, ◌++◌, get_or, length, Option, Some, None, slice_get, cond, Result, Ok, Err}
+use Rattle.std.specs.Prelude.{ℕ, true, List, [], ◌∷◌, ◌++◌, get_or, length, Option, Some, None, cond, Result, Ok, Err}
 use Rattle.perm_tree.specs.declared.ast.Stmt.{Stmt}
 use Rattle.perm_tree.specs.declared.ast.StmtKind.{StmtKind}
 use Rattle.perm_tree.specs.declared.ast.StmtKind.TheVariants.{Assign}
@@ -10,10 +10,10 @@ use Rattle.perm_tree.specs.declared.ast.Perm.TheVariants.{Readable}
 use Rattle.perm_tree.specs.declared.ast.Ty.TheVariants.{Long}
 use Rattle.perm_tree.specs.declared.errors.TypeError.{TypeError}
 use Rattle.perm_tree.specs.declared.errors.TypeKind.{TypeKind}
-use Rattle.perm_tree.specs.declared.unit.MethodTable.{MethodTable}
 use Rattle.perm_tree.specs.declared.unit.VarInfo.{VarInfo}
 use Rattle.perm_tree.specs.Code.{Code, End, Routine}
-use Rattle.perm_tree.specs.CodeOf.{Setting, setting, code_of, stmt_code, block_code, own_vars, tied_before}
+use Rattle.perm_tree.specs.CodeNames.{own_vars, tied_before}
+use Rattle.perm_tree.specs.CodeOf.{code_of, stmt_code, block_code}
 use Rattle.perm_tree.specs.UnitTables.{Tables}
 use Rattle.perm_tree.specs.Vars.{Vars, those}
 use Rattle.perm_rules.specs.declared.ParMode.{ParMode}
@@ -21,7 +21,7 @@ use Rattle.perm_rules.specs.Parts.{Context, ParHead}
 use Rattle.perm_rules.specs.Pars.{uses, sets, par_head, mode_of}
 use Rattle.perm_rules.specs.Refusals.{refusal}
 use Rattle.perm_rules.specs.Effects.{Effect, effect, changed, block_effect, known_effect}
-use Rattle.perm_rules.specs.InBody.{all_within}
+use Rattle.perm_tree.specs.InBody.{all_within, vars_at, setting_at}
 use Rattle.perm_rules.specs.Goes.{Goes, context, hiding}
 use Rattle.perm_rules.specs.FirstRefused.{first_refused}
 
@@ -33,19 +33,6 @@ no_routine = record { class = 0; receiver = Readable; result = Long; params = []
 -- its types and its code
 abbrev pub routine_at : Tables → ℕ → Routine
 routine_at u m = get_or (code_of u).routines m no_routine
-
--- the variables of a table, if it is there
-abbrev pub vars_if : Option MethodTable → List VarInfo
-vars_if None = []
-vars_if (Some t) = t.vars
-
--- its variables
-abbrev pub vars_at : Tables → ℕ → List VarInfo
-vars_at u m = vars_if (slice_get u.tables m)
-
--- what its code is made with
-abbrev pub setting_at : Tables → ℕ → Setting
-setting_at u m = setting u (vars_at u m)
 
 -- ---------- what is hidden at a place ----------
 -- what the right side of a statement hides in its block: a recover block the writable and readable variables that are declared before it

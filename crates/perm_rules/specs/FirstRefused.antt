@@ -1,5 +1,5 @@
 -- The first part that is refused, and its kind.
-use Rattle.std.specs.Prelude.{List, [], ◌∷◌, ◌++◌, Option, Some, None}
+use Rattle.std.specs.Prelude.{List, [], ◌∷◌, ◌++◌, flat_map, Option, Some, None}
 use Rattle.perm_tree.specs.declared.ast.Span.{Span}
 use Rattle.perm_tree.specs.declared.errors.TypeKind.{TypeKind}
 use Rattle.perm_tree.specs.declared.errors.TypeError.{TypeError}
@@ -37,6 +37,14 @@ entries c (Par at own1 a own2 b rest) G =
     entry c at (par_head c own1 a own2 b) G ∷ (entries c a G ++ (entries c b G ++ entries c rest (changed (both (block_effect own1 a) (block_effect own2 b)) G)))
 entries c (Recover at x own hides body rest) G =
     entry c at (RecoverHead x) G ∷ (entries (hiding hides c) body G ++ entries c rest (changed (block_effect own body) G))
+
+-- the parts of a method
+abbrev pub method_entries : UnitCode → Routine → List Entry
+method_entries u r = entries (context u r) r.code (first_live r)
+
+-- the parts of a unit: those of its methods, one method behind the other
+abbrev pub unit_entries : UnitCode → List Entry
+unit_entries u = flat_map (method_entries u) u.routines
 
 -- the kind at the span, or else what comes later
 abbrev pub error_or : Span → Option TypeKind → Option TypeError → Option TypeError

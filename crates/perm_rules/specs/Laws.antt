@@ -3,7 +3,8 @@ use Rattle.std.specs.Prelude.{◌≡◌, ◌↔◌, ℕ, false, ◌&&◌, cond, 
 use Rattle.perm_tree.specs.declared.ast.Block.{Block}
 use Rattle.perm_tree.specs.declared.ast.Method.{Method}
 use Rattle.perm_tree.specs.Code.{Code, Return, Routine, UnitCode}
-use Rattle.perm_tree.specs.CodeOf.{argument, code_of}
+use Rattle.perm_tree.specs.CodeNames.{argument}
+use Rattle.perm_tree.specs.CodeOf.{code_of}
 use Rattle.perm_tree.specs.Resolves.{IsResolved}
 use Rattle.perm_tree.specs.TextOrder.{ends, IsRising}
 use Rattle.perm_tree.specs.UnitTables.{Tables}
@@ -12,9 +13,9 @@ use Rattle.perm_rules.specs.Parts.{Context, type_of}
 use Rattle.perm_rules.specs.Effects.{effect, changed}
 use Rattle.perm_rules.specs.Goes.{Goes, IsAccepted, context, first_live}
 use Rattle.perm_rules.specs.Sharing.{AllSharePlainly}
-use Rattle.perm_rules.specs.FirstRefused.{Entry, entries, first_refused, method_refusal, unit_refusal}
-use Rattle.perm_rules.specs.InBody.{method_at, IsStmtOf, AreParOf}
-use Rattle.perm_rules.specs.AtPlace.{vars_at, setting_at, context_at, whole_effect_of, effect_of, par_mode_of, plain_mode_of, stmt_code_at, StmtGoes, flow_of, flows_of, refusal_then}
+use Rattle.perm_rules.specs.FirstRefused.{Entry, entries, method_entries, unit_entries, first_error, first_refused, method_refusal, unit_refusal}
+use Rattle.perm_tree.specs.InBody.{method_at, IsStmtOf, AreParOf, vars_at, setting_at}
+use Rattle.perm_rules.specs.AtPlace.{context_at, whole_effect_of, effect_of, par_mode_of, plain_mode_of, stmt_code_at, StmtGoes, flow_of, flows_of, refusal_then}
 
 -- a code that goes from a live set goes to that without what its effect loses, with what it makes
 abbrev pub GoesByEffect : Type 0
@@ -79,4 +80,12 @@ ModeByWrites = (u : Tables) (m : ℕ) (left right : Block) → IsResolved u → 
 
 -- the parts of a method of a unit stand in text order: each ends no sooner than the one before it
 abbrev pub PartsInOrder : Type 0
-PartsInOrder = (u : Tables) (m : ℕ) (r : Routine) → IsResolved u → slice_get (code_of u).routines m ≡ Some r → IsRising 0 (map (λ e. ends e.at.end) (entries (context (code_of u) r) r.code (first_live r)))
+PartsInOrder = (u : Tables) (m : ℕ) (r : Routine) → IsResolved u → slice_get (code_of u).routines m ≡ Some r → IsRising 0 (map (λ e. ends e.at.end) (method_entries (code_of u) r))
+
+-- the parts of a unit stand in text order, within each method and from each method to the next: each ends no sooner than the one before it
+abbrev pub UnitInOrder : Type 0
+UnitInOrder = (u : Tables) → IsResolved u → IsRising 0 (map (λ e. ends e.at.end) (unit_entries (code_of u)))
+
+-- what is refused of a unit is the first of its parts that is refused
+abbrev pub RefusedAtFirst : Type 0
+RefusedAtFirst = (u : UnitCode) → unit_refusal u ≡ first_error (unit_entries u)

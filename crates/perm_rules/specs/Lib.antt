@@ -1,3 +1,4 @@
+pub mod MethodBodies
 pub mod Parts
 pub mod Sorts
 pub mod Liveness
@@ -10,6 +11,5 @@ pub mod Refusals
 pub mod Effects
 pub mod Goes
 pub mod FirstRefused
-pub mod InBody
 pub mod AtPlace
 pub mod Laws

@@ -1,7 +1,7 @@
 -- The two blocks of a par: what they may share, and which side stands alone.
 use Rattle.std.specs.Prelude.{ℕ, Bool, true, false, not, ◌&&◌, ◌||◌, List, length}
 use Rattle.perm_tree.specs.Code.{Instruction, Declare, Code, End, Give, Return, Do, If, While, Par, Recover}
-use Rattle.perm_tree.specs.CodeOf.{is_tied}
+use Rattle.perm_tree.specs.CodeNames.{is_tied}
 use Rattle.perm_tree.specs.Mentions.{argument_consumes, consumes, assigns, block_mentions, block_writes, known}
 use Rattle.perm_tree.specs.Names.{is_writable}
 use Rattle.perm_tree.specs.Vars.{Vars, none, just, those, plus, meet, some_below}

@@ -8,7 +8,7 @@ use Rattle.perm_tree.specs.declared.ast.Ty.TheVariants.{Ref}
 use Rattle.perm_tree.specs.declared.ast.BinaryOp.{BinaryOp}
 use Rattle.perm_tree.specs.declared.ast.BinaryOp.TheVariants.{Equal, Differs}
 use Rattle.perm_tree.specs.Code.{Term, Local, Unary, Binary, Argument, Expression, Consumed, Tie, Raises, Lends, Instruction, Assign, LoadField, LoadItem, TakeField, NewArray, StoreField, StoreItem, Invoke, Print, Routine}
-use Rattle.perm_tree.specs.CodeOf.{is_tied}
+use Rattle.perm_tree.specs.CodeNames.{is_tied}
 use Rattle.perm_tree.specs.Ties.{is_harmless}
 use Rattle.perm_tree.specs.Vars.{those}
 use Rattle.perm_perm.specs.Order.{is_at_most}

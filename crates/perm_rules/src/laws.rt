@@ -1,6 +1,6 @@
 //! Laws of the typing rules. A law does nothing: its contract is the claim.
 
-ghost use Rattle.perm_rules.specs.Laws.{GoesByEffect, LosesOrMakes, GoesFromMore, ChangesKnown, GoesUnrefused, AcceptedUnrefused, FlowGoes, PlainlyShared, RefusedByKnown, PlaceContext, ModeByWrites, PartsInOrder, RefusedByBody};
+ghost use Rattle.perm_rules.specs.Laws.{GoesByEffect, LosesOrMakes, GoesFromMore, ChangesKnown, GoesUnrefused, AcceptedUnrefused, FlowGoes, PlainlyShared, RefusedByKnown, PlaceContext, ModeByWrites, PartsInOrder, UnitInOrder, RefusedAtFirst, RefusedByBody};
 
 /// What goes is told by effects, and a larger live set stays larger; the effect of a block is told by the variables of its method alone.
 pub fn effects()
@@ -30,7 +30,9 @@ pub fn places()
     ensures body { RefusedByBody }
 {}
 
-/// The parts of a method stand in text order, so that the first refused one is the first in the text too.
+/// The parts of a unit stand in text order, so that the first refused one is the first in the text too.
 pub fn order()
-    ensures { PartsInOrder }
+    ensures methods { PartsInOrder }
+    ensures unit { UnitInOrder }
+    ensures first { RefusedAtFirst }
 {}

@@ -1,9 +1,11 @@
 //! The typing rules: what is allowed of each part of a method, from which live set to which its code goes, and the first part that is refused.
 #![tactic(auto)]
 
+mod body;
 mod checked;
 pub mod laws;
 
+pub use body::MethodBody;
 pub use checked::Checked;
 pub use perm_tree::var_set::VarSet;
 
@@ -13,4 +15,11 @@ pub enum ParMode {
     Symmetric,
     LeftAlone,
     RightAlone,
+}
+
+/// What a block takes out of the live set, and what it puts in, of the variables of its method; nothing is in both.
+#[derive(Clone, Copy, Debug)]
+pub struct Effect {
+    pub lost: VarSet,
+    pub made: VarSet,
 }

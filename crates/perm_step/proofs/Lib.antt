@@ -11,7 +11,6 @@ pub mod Reached
 pub mod Room
 pub mod Standing
 pub mod StraightCode
-pub mod StraightFits
 pub mod StraightMoments
 pub mod StraightRuns
 pub mod StraightSteps

@@ -13,7 +13,8 @@ use Rattle.perm_tree.specs.declared.ast.StmtKind.TheVariants.{Declare as Declare
 use Rattle.perm_tree.specs.declared.ast.Ty.{Ty}
 use Rattle.perm_tree.specs.declared.unit.MethodTable.{MethodTable}
 use Rattle.perm_tree.specs.Code.{Code, Return}
-use Rattle.perm_tree.specs.CodeOf.{Setting, setting, argument, var_at, assignment, kind_code, sequence, codes_of, routine, routine_if, routines_of, code_of}
+use Rattle.perm_tree.specs.CodeNames.{Setting, setting, argument, var_at}
+use Rattle.perm_tree.specs.CodeOf.{assignment, kind_code, sequence, codes_of, routine, routine_if, routines_of, code_of}
 use Rattle.perm_tree.specs.Entries.{entries_from}
 use Rattle.perm_tree.specs.Lookup.{is_class_word, is_method_if, is_method_of, method_in, method_of, main_place}
 use Rattle.perm_tree.specs.Spelling.{main_word, run_word, is_word}

@@ -4,11 +4,12 @@ use Rattle.std.specs.Prelude.{ℤ, nat_le, slice_get, Result, Ok, Err, IfOk, IfE
 use Rattle.std.proofs.lemmas.Bool.{lt-leb}
 use Rattle.perm_tree.specs.declared.bodies.Bodies.{Bodies}
 use Rattle.perm_tree.specs.CodeOf.{code_of}
+use Rattle.perm_tree.specs.Resolves.{IsResolved}
 use Rattle.perm_tree.specs.UnitTables.{Tables}
 use Rattle.perm_meaning.specs.declared.End.{End}
 use Rattle.perm_meaning.specs.declared.End.TheVariants.{Done, Trap, OutOfTurns, HeapFull}
 use Rattle.perm_meaning.specs.declared.Outcome.{Outcome}
-use Rattle.perm_meaning.specs.Claims.{BeginsOnWords, EndsOnWords}
+use Rattle.perm_meaning.specs.Claims.{EndsOnWords, OpensOnWords}
 use Rattle.perm_meaning.specs.Custody.{Copies}
 use Rattle.perm_meaning.specs.Literals.{NumbersFit}
 use Rattle.perm_meaning.specs.Machine.{Trapped, NoTurns, Final, GaveBack, Failed, final, turns_of, printed_of}
@@ -23,6 +24,7 @@ use Rattle.perm_meaning.specs.Words.{number_in}
 use Rattle.perm_meaning.proofs.LeftFirst.Determined.{determined, over-at-rest, refused-at-rest}
 use Rattle.perm_meaning.proofs.Leads.{some-inj, ended-no-event}
 use Rattle.perm_meaning.proofs.OnWords.WordsRun.{words-end-as-meaning, words-fill-as-meaning}
+use Rattle.perm_meaning.proofs.UnitLiterals.{IsResolved-fits}
 use Rattle.perm_step.specs.declared.machine.Halt.{Halt}
 use Rattle.perm_step.specs.declared.machine.Halt.TheVariants.{Ended, NoMemory}
 use Rattle.perm_step.specs.Straight.{IsStraight}
@@ -32,24 +34,17 @@ use Rattle.perm_step.specs.Rounds.{halt_short, ComesTo, Fills, HaltsFrom, IsConc
 use Rattle.perm_step.specs.Tells.{HasRoot, Tells}
 use Rattle.perm_step.specs.Workspace.{Workspace, cells_of}
 use Rattle.perm_step.proofs.StraightCode.{straight_code}
-use Rattle.perm_step.proofs.StraightFits.{straight_unit_fits}
 use Rattle.perm_step.proofs.StraightUnits.{start, straight_not_stuck}
 
-module _ (u : Tables) (s : IsStraight u) (input : List ℤ) (turns limit : ℕ) (small : limit ≤ 4194304) (o : Outcome) (main : ℕ) (is_main : main ≡ root_word input) where
+module _ (u : Tables) (resolved : IsResolved u) (s : IsStraight u) (input : List ℤ) (turns limit : ℕ) (small : limit ≤ 4194304) (o : Outcome) (main : ℕ) (is_main : main ≡ root_word input) where
   abbrev opened : State
   opened = opening_state (code_of u) input turns (start u s)
 
   abbrev meant : meaning.Outcome
   meant = outcome (code_of u) input turns limit
 
-  begins : NumbersFit input → opening_need (code_of u) input ≤ limit → BeginsOnWords (code_of u) limit input (start u s)
-  begins numbers fits = record {
-    run = straight_code u s;
-    fits = fits;
-    bases = omega arith;
-    code = straight_unit_fits u s;
-    numbers = numbers;
-  }
+  begins : NumbersFit input → opening_need (code_of u) input ≤ limit → OpensOnWords (code_of u) limit input (start u s)
+  begins numbers fits = record { opens = record { run = straight_code u s; fits = fits }; bases = omega arith; numbers = numbers }
 
   -- a run that has ended doesn't come to a refused allocation
   apart : (t : State) (f : Final ℕ) → Leads (worded Copies (code_of u)) memory (within limit) opened t → final t.task ≡ Some f → Fills (code_of u) limit opened → ⊥
@@ -80,9 +75,9 @@ module _ (u : Tables) (s : IsStraight u) (input : List ℤ) (turns limit : ℕ) 
           }
 
       by : (x : meaning.Outcome) → meant ≡ x → Tells x o
-      by (Ran r) q = told r (words-end-as-meaning (code_of u) limit input turns (start u s) r (begins numbers fits) q) comes
+      by (Ran r) q = told r (words-end-as-meaning (code_of u) (IsResolved-fits u resolved) limit input turns (start u s) r (begins numbers fits) q) comes
       by RanFull q =
-          let full = words-fill-as-meaning (code_of u) limit input turns (start u s) (begins numbers fits) q in
+          let full = words-fill-as-meaning (code_of u) (IsResolved-fits u resolved) limit input turns (start u s) (begins numbers fits) q in
           absurd (apart comes.0 f comes.1 comes.2 (full.1, full.2, (full.0, full.3), full.4, full.5))
       by RanStuck q = absurd (straight_not_stuck u s input turns limit q)
 
@@ -92,7 +87,7 @@ module _ (u : Tables) (s : IsStraight u) (input : List ℤ) (turns limit : ℕ) 
     where
       by : (x : meaning.Outcome) → meant ≡ x → Tells x o
       by (Ran r) q =
-          let w = words-end-as-meaning (code_of u) limit input turns (start u s) r (begins numbers fits) q in
+          let w = words-end-as-meaning (code_of u) (IsResolved-fits u resolved) limit input turns (start u s) r (begins numbers fits) q in
           absurd (apart w.state w.ending (w.events, w.run) w.over fills)
       by RanFull q = full
       by RanStuck q = absurd (straight_not_stuck u s input turns limit q)
@@ -118,17 +113,17 @@ module _ (u : Tables) (s : IsStraight u) (input : List ℤ) (turns limit : ℕ) 
 
 -- ---------- what is told ----------
 -- what is told of a run of the interpreter is what the unit means
-pub concluded_tells : (u : Tables) (b : Bodies) (input : List ℤ) (turns limit : ℕ) (o : Outcome) (main : ℕ) → main ≡ root_word input → (old new : Workspace) (r : Result ℕ Halt) → IsReadyToRun u b old → old.turns ≡ turns → old.limit ≡ limit
+pub concluded_tells : (u : Tables) → IsResolved u → (b : Bodies) (input : List ℤ) (turns limit : ℕ) (o : Outcome) (main : ℕ) → main ≡ root_word input → (old new : Workspace) (r : Result ℕ Halt) → IsReadyToRun u b old → old.turns ≡ turns → old.limit ≡ limit
     → IfOk r (RunGives b input old new) → IfErr r (RunHalts b input old new) → IsConcluded r main new turns o → Tells (outcome (code_of u) input turns limit) o
-concluded_tells u b input turns limit o main is_main old new (Ok word) ready same_turns same_limit gives halts told = by (gives u ready)
+concluded_tells u resolved b input turns limit o main is_main old new (Ok word) ready same_turns same_limit gives halts told = by (gives u ready)
   where
     by : NumbersFit input × (opening_need (code_of u) input ≤ old.limit) × ComesTo (code_of u) old.limit (opening_state (code_of u) input old.turns (start u ready.straight)) new (GaveBack word new.turns new.printed) → Tells (outcome (code_of u) input turns limit) o
     by (numbers, fits, comes) =
         let here : ComesTo (code_of u) limit (opening_state (code_of u) input turns (start u ready.straight)) new (GaveBack word new.turns new.printed) =
         subst (λ l. ComesTo (code_of u) l (opening_state (code_of u) input turns (start u ready.straight)) new (GaveBack word new.turns new.printed)) same_limit
         (subst (λ t. ComesTo (code_of u) old.limit (opening_state (code_of u) input t (start u ready.straight)) new (GaveBack word new.turns new.printed)) same_turns comes) in
-        ended_tells u ready.straight input turns limit (omega (arith, ready.limit, same_limit)) o main is_main new (GaveBack word new.turns new.printed) (Done (number_in word)) numbers (omega (arith, fits, same_limit)) here refl refl refl told
-concluded_tells u b input turns limit o main is_main old new (Err e) ready same_turns same_limit gives halts told = by (halts u ready)
+        ended_tells u resolved ready.straight input turns limit (omega (arith, ready.limit, same_limit)) o main is_main new (GaveBack word new.turns new.printed) (Done (number_in word)) numbers (omega (arith, fits, same_limit)) here refl refl refl told
+concluded_tells u resolved b input turns limit o main is_main old new (Err e) ready same_turns same_limit gives halts told = by (halts u ready)
   where
     small : limit ≤ 4194304
     small = omega (arith, ready.limit, same_limit)
@@ -136,13 +131,13 @@ concluded_tells u b input turns limit o main is_main old new (Err e) ready same_
     by : ((short : Shortage) × (e ≡ halt_short short) × IsNotOpened (opening_need (code_of u) input) old.limit short)
         ⊎ (NumbersFit input × (opening_need (code_of u) input ≤ old.limit) × HaltsFrom (code_of u) old.limit (opening_state (code_of u) input old.turns (start u ready.straight)) new e) → Tells (outcome (code_of u) input turns limit) o
     by (inl (short, is, refused)) =
-        unopened_halts u ready.straight input turns limit small o main is_main new short (subst (λ l. IsNotOpened (opening_need (code_of u) input) l short) same_limit refused)
+        unopened_halts u resolved ready.straight input turns limit small o main is_main new short (subst (λ l. IsNotOpened (opening_need (code_of u) input) l short) same_limit refused)
         (subst (λ (h : Halt). IsHalted h main new turns o) is told)
     by (inr (numbers, fits, stops)) =
         let here : HaltsFrom (code_of u) limit (opening_state (code_of u) input turns (start u ready.straight)) new e =
         subst (λ l. HaltsFrom (code_of u) l (opening_state (code_of u) input turns (start u ready.straight)) new e) same_limit
         (subst (λ t. HaltsFrom (code_of u) old.limit (opening_state (code_of u) input t (start u ready.straight)) new e) same_turns stops) in
-        halted_tells u ready.straight input turns limit small o main is_main new e numbers (omega (arith, fits, same_limit)) here told
+        halted_tells u resolved ready.straight input turns limit small o main is_main new e numbers (omega (arith, fits, same_limit)) here told
 
 -- the root is that of the object of Main
 root-of : (e : End) (main : ℕ) (m : Workspace) (turns : ℕ) (o : Outcome) (input : List ℤ) → main ≡ root_word input → IsEnded e main m turns o → HasRoot input o

@@ -12,7 +12,7 @@ use Rattle.perm_tree.specs.declared.errors.TrapKind.{TrapKind}
 use Rattle.perm_tree.specs.declared.errors.TrapKind.TheVariants.{NullReference}
 use Rattle.perm_tree.specs.Code.{Code, Instruction, NewObject, LoadField, StoreField, Print, UnitCode}
 use Rattle.perm_tree.specs.CodeOf.{routine, code_of}
-use Rattle.perm_tree.specs.Links.{AreBodies}
+use Rattle.perm_tree.specs.Links.{AreBodiesOf}
 use Rattle.perm_tree.specs.UnitTables.{Tables}
 use Rattle.perm_meaning.specs.declared.End.{End}
 use Rattle.perm_meaning.specs.declared.End.TheVariants.{Done, Trap, OutOfTurns, HeapFull}
@@ -222,7 +222,7 @@ IsNotOpened need limit shortages.HeapFull = limit < need
 -- a machine that is about to run a straight unit with these bodies, and hasn't done anything
 pub record IsReadyToRun (u : Tables) (b : Bodies) (m : Workspace) : Type 0 where
   pub straight : IsStraight u
-  pub bodies : AreBodies u b
+  pub bodies : AreBodiesOf (code_of u) b
   pub entry : Entry
   pub here : slice_get b.entries b.run ≡ Some entry
   pub at : m.at ≡ entry.first

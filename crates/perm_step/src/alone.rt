@@ -33,6 +33,7 @@ pub fn run_alone(
     ensures tells { IfOk result (Tells (outcome (code_of unit.now) input.now turns heap)) }
     ensures root { IfOk result (HasRoot input.now) }
 {
+    unit.resolved();
     let bodies = unit.bodies();
     let entry = bodies.entries.as_slice()[bodies.run as usize];
     let mut machine = Machine::new(

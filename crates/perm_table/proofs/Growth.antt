@@ -10,6 +10,7 @@ use Rattle.perm_tree.specs.declared.bodies.Argument.TheVariants as handed
 use Rattle.perm_tree.specs.declared.bodies.Action.{Action}
 use Rattle.perm_tree.specs.declared.bodies.Action.TheVariants as actions
 use Rattle.perm_tree.specs.declared.bodies.Bodies.{Bodies}
+use Rattle.perm_tree.specs.declared.bodies.Invocation.{Invocation}
 use Rattle.perm_tree.specs.Code as code
 use Rattle.perm_tree.specs.Code.{Tie, UnitCode}
 use Rattle.perm_tree.specs.BodyTerms.{stretch, expression_term, argument_of, instruction_of, AreOrdered, IsExpressionIn, IsArgumentIn, AreArgumentsIn, IsActionIn}
@@ -32,7 +33,7 @@ stretch-stays xs ys first count within (m, e) =
 
 -- ---------- bodies ----------
 pub Grows-refl : (b : Bodies) → Grows b b
-Grows-refl b = record { operations = HasMore-refl b.operations; arguments = HasMore-refl b.arguments; sides = refl; steps = refl; entries = refl; run = refl; fields = refl }
+Grows-refl b = record { operations = HasMore-refl b.operations; arguments = HasMore-refl b.arguments; sides = refl; steps = refl; places = refl; entries = refl; run = refl; fields = refl }
 
 pub Grows-trans : (a b c : Bodies) → Grows a b → Grows b c → Grows a c
 Grows-trans a b c f g = record {
@@ -40,6 +41,7 @@ Grows-trans a b c f g = record {
   arguments = HasMore-trans a.arguments b.arguments c.arguments f.arguments g.arguments;
   sides = g.sides ∙ f.sides;
   steps = g.steps ∙ f.steps;
+  places = g.places ∙ f.places;
   entries = g.entries ∙ f.entries;
   run = g.run ∙ f.run;
   fields = g.fields ∙ f.fields;
@@ -97,10 +99,10 @@ module _ (all more : List Operation) (grows : HasMore all more) where
 
 -- ---------- steps ----------
 module _ (old new : Bodies) (u : UnitCode) (more : Extends old new) where
-  in-stays : (e : Expression) → IsExpressionIn old.operations e → IsExpressionIn new.operations e
+  pub in-stays : (e : Expression) → IsExpressionIn old.operations e → IsExpressionIn new.operations e
   in-stays e is = expression-in-stays old.operations new.operations more.operations e is
 
-  handed-stays : (a : Argument) → IsArgumentIn old.operations a → IsArgumentIn new.operations a
+  pub handed-stays : (a : Argument) → IsArgumentIn old.operations a → IsArgumentIn new.operations a
   handed-stays a is = argument-in-stays old.operations new.operations more.operations a is
 
   -- what a step refers to is still there
@@ -129,11 +131,17 @@ module _ (old new : Bodies) (u : UnitCode) (more : Extends old new) where
   action-in-stays (actions.Return a) is = handed-stays a is
   action-in-stays actions.End is = is
 
-  term-stays : (e : Expression) → IsExpressionIn old.operations e → expression_term new.operations e ≡ expression_term old.operations e
+  pub term-stays : (e : Expression) → IsExpressionIn old.operations e → expression_term new.operations e ≡ expression_term old.operations e
   term-stays e is = expression-stays old.operations new.operations more.operations e is
 
-  value-stays : (a : Argument) → IsArgumentIn old.operations a → argument_of new.operations a ≡ argument_of old.operations a
+  pub value-stays : (a : Argument) → IsArgumentIn old.operations a → argument_of new.operations a ≡ argument_of old.operations a
   value-stays a is = argument-stays old.operations new.operations more.operations a is
+
+  -- so are the arguments of a call, which are the same
+  pub handed-stay : (v : Invocation) → IsActionIn old u (actions.Invoke v) → map (argument_of new.operations) (stretch new.arguments v.first v.count) ≡ map (argument_of old.operations) (stretch old.arguments v.first v.count)
+  handed-stay v is =
+      ap (map (argument_of new.operations)) (stretch-stays old.arguments new.arguments v.first v.count is.0 more.arguments)
+      ∙ arguments-stay old.operations new.operations more.operations (stretch old.arguments v.first v.count) is.1
 
   -- and it asks for the same
   pub action-stays : (tie : Tie) (a : Action) → IsActionIn old u a → instruction_of new tie a ≡ instruction_of old tie a
@@ -148,9 +156,7 @@ module _ (old new : Bodies) (u : UnitCode) (more : Extends old new) where
   action-stays tie (actions.StoreField y f a) is = ap (code.StoreField y f) (value-stays a is)
   action-stays tie (actions.StoreItem y i e) is = (λ j. code.StoreItem y (term-stays i is.0 j) (term-stays e is.1 j))
   action-stays tie (actions.Invoke v) is =
-      ap (code.Invoke v.into tie v.consumed v.receiver v.routine)
-      (ap (map (argument_of new.operations)) (stretch-stays old.arguments new.arguments v.first v.count is.0 more.arguments)
-      ∙ arguments-stay old.operations new.operations more.operations (stretch old.arguments v.first v.count) is.1)
+      ap (code.Invoke v.into tie v.consumed v.receiver v.routine) (handed-stay v is)
   action-stays tie (actions.Print e) is = ap code.Print (term-stays e is)
   action-stays tie (actions.If e other) is = refl
   action-stays tie (actions.While e body) is = refl

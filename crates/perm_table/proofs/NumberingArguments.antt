@@ -29,6 +29,7 @@ arguments-more old mid new vs v a tells one = record {
     arguments = (a ∷ [], ap (λ l. l ++ a ∷ []) one.arguments);
     sides = one.grows.sides;
     steps = one.grows.steps;
+    places = one.grows.places;
     entries = one.grows.entries;
     run = one.grows.run;
     fields = one.grows.fields;

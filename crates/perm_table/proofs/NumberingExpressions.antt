@@ -16,7 +16,7 @@ use Rattle.perm_tree.specs.declared.bodies.Operation.{Operation}
 use Rattle.perm_tree.specs.BodyTerms.{operand_term, operation_term, operation_terms, stretch, IsOperandBelow, IsOperationBelow, AreOrdered}
 use Rattle.perm_tree.specs.Code as code
 use Rattle.perm_tree.specs.Code.{Term, NullLit}
-use Rattle.perm_tree.specs.CodeOf.{term_of, terms_of, term_at}
+use Rattle.perm_tree.specs.CodeNames.{term_of, terms_of, term_at}
 use Rattle.perm_tree.specs.Lows.{lows_of}
 use Rattle.perm_tree.specs.Places.{ExprBelow, IsPlaced}
 use Rattle.perm_tree.proofs.CodeLaws.{term_at-is}
@@ -215,7 +215,7 @@ operations-told old new run o first count begin many is are below =
 
     told : TellsTerm old made t (expressions.Operations (length old.operations) (length all))
     told = record {
-      grows = record { operations = (all, refl); arguments = ([], sym (append-nil old.arguments)); sides = refl; steps = refl; entries = refl; run = refl; fields = refl };
+      grows = record { operations = (all, refl); arguments = ([], sym (append-nil old.arguments)); sides = refl; steps = refl; places = refl; entries = refl; run = refl; fields = refl };
       arguments = refl;
       inside = (
         omega (arith, length-append run (o ∷ [])),

@@ -5,6 +5,7 @@ use Rattle.perm_tree.specs.declared.ast.Ident.{Ident}
 use Rattle.perm_tree.specs.declared.ast.Method.{Method}
 use Rattle.perm_tree.specs.declared.ast.Rhs.{Rhs}
 use Rattle.perm_tree.specs.declared.ast.Span.{Span}
+use Rattle.perm_tree.specs.declared.ast.Stmt.{Stmt}
 use Rattle.perm_tree.specs.declared.ast.StmtKind.{StmtKind}
 use Rattle.perm_tree.specs.declared.ast.StmtKind.TheVariants.{Assign}
 use Rattle.perm_tree.specs.declared.ast.Ty.{Ty}
@@ -16,15 +17,21 @@ use Rattle.perm_tree.specs.declared.bodies.Step.{Step}
 use Rattle.perm_tree.specs.declared.unit.MethodTable.{MethodTable}
 use Rattle.perm_tree.specs.declared.var_set.VarSet.{VarSet}
 use Rattle.perm_tree.specs.Code.{Code, End, Give, Return, If, While, Par, Recover, Instruction, Routine, UnitCode}
-use Rattle.perm_tree.specs.CodeOf.{Setting, argument, block_code, code_of, own_vars, term_at, tied_before}
+use Rattle.perm_tree.specs.CodeNames.{Setting, argument, own_vars, term_at, tied_before}
+use Rattle.perm_tree.specs.CodeOf.{block_code, code_of}
+use Rattle.perm_tree.specs.InBody.{method_at, setting_at, HasStmt}
 use Rattle.perm_tree.specs.Links.{Enclosing, Spot, spot_of, IsLinked, IsSimple, StandsAt, most_variables}
 use Rattle.perm_tree.specs.Lookup.{main_place, method_of}
 use Rattle.perm_tree.specs.Mentions.{assigns, block_writes, consumes, written}
 use Rattle.perm_tree.specs.Places.{Listing}
+use Rattle.perm_tree.specs.StatementSteps.{HasReturnOf, HasStepOf}
+use Rattle.perm_tree.specs.UnitTables.{Tables}
 use Rattle.perm_tree.specs.VarSets.{member}
 use Rattle.perm_tree.specs.Vars.{Vars, plus}
+use Rattle.perm_table.specs.declared.numbering.emit.Emitted.{Emitted}
 use Rattle.perm_table.specs.declared.numbering.emit.Fragment.{Fragment}
 use Rattle.perm_table.specs.Growth.{Extends}
+use Rattle.perm_table.specs.StepPlaces.{block_holds, AreNamed, HasAt}
 
 -- ---------- steps at spots ----------
 -- these spots stand one after the other, from a place on
@@ -66,15 +73,22 @@ Holds set G = (x : ℕ) → x < most_variables → member set x ≡ G x
 abbrev pub HoldsWritten : VarSet → (Code → Code) → Type 0
 HoldsWritten set code = (rest : Code) (x : ℕ) → x < most_variables → written (code rest) x ≡ plus (member set) (written rest) x
 
--- a code is emitted, and what it writes is known
-pub record IsEmitted (k : Setting) (old : Bodies) (next : ℕ) (new : Bodies) (code : Code → Code) (e : Fragment) : Type 0 where
+-- a code is emitted, what it writes is known, and the steps of the statements that it holds are named
+pub record IsEmitted (k : Setting) (old : Bodies) (next : ℕ) (new : Bodies) (code : Code → Code) (held : List ℕ) (e : Fragment) : Type 0 where
   pub emits : Emits (code_of k.tables) old next new e.first code
   pub writes : HoldsWritten e.written code
+  pub names : AreNamed k old new held
 
--- a block is emitted, and the outer variables that it writes are known
+-- so is a statement's, and of its own step, which isn't named yet, something is said
+pub record IsStmtEmitted (k : Setting) (old : Bodies) (next : ℕ) (new : Bodies) (code : Code → Code) (held : List ℕ) (says : Action → Type 0) (e : Emitted) : Type 0 where
+  pub emitted : IsEmitted k old next new code held e.fragment
+  pub has : HasAt says old new e.step
+
+-- a block is emitted, the outer variables that it writes are known, and the steps of its statements are named
 pub record IsBlockEmitted (k : Setting) (old : Bodies) (next : ℕ) (new : Bodies) (stmts : List ℕ) (e : Fragment) : Type 0 where
   pub emits : Emits (code_of k.tables) old next new e.first (block_code k stmts)
   pub writes : Holds e.written (block_writes (own_vars k stmts) (block_code k stmts End))
+  pub names : AreNamed k old new (block_holds k stmts)
 
 -- ---------- statements with blocks ----------
 -- the code of an if
@@ -118,14 +132,17 @@ IsCallIn b (Invoke v) = v.first + v.count ≤ length b.arguments
 IsCallIn b action = Unit {0}
 
 -- ---------- methods ----------
--- a method is emitted: its steps end with its `return`, and its entry stands behind those that were there
+-- a method is emitted: its steps end with its `return`, its entry stands behind those that were there, and the steps of its statements are named
 pub record IsMethodEmitted (k : Setting) (old new : Bodies) (d : Method) : Type 0 where
   pub first : ℕ
+  pub last : ℕ
   pub added : List Step
   pub steps : new.steps ≡ old.steps ++ added
   pub extends : Extends old new
-  pub entries : new.entries ≡ old.entries ++ record { first = first; variables = length k.vars } ∷ []
+  pub entries : new.entries ≡ old.entries ++ record { first = first; last = last; variables = length k.vars } ∷ []
   pub path : (m : ℕ) → IsPath (code_of k.tables) new (length old.steps) added (λ spot all. Unit {0}) (λ spot all. StandsAt spot all first (spot_of m (block_code k d.body.stmts (Return d.span (argument k d.back))) []))
+  pub returns : HasReturnOf k new d (record { first = first; last = last; variables = length k.vars })
+  pub names : AreNamed k old new (block_holds k d.body.stmts)
 
 -- the method with this number begins at its first step
 pub record BeginsAt (spot : ℕ → Spot) (all : List Step) (m : ℕ) (e : Entry) (r : Routine) : Type 0 where
@@ -137,9 +154,12 @@ abbrev pub AllBegin : (ℕ → Spot) → List Step → UnitCode → List Entry �
 AllBegin spot all u entries = (m : ℕ) (e : Entry) (r : Routine) → slice_get entries m ≡ Some e → slice_get u.routines m ≡ Some r → BeginsAt spot all m e r
 
 -- the first n methods of a unit are emitted
-pub record AreEmitted (u : UnitCode) (n : ℕ) (b : Bodies) : Type 0 where
+pub record AreEmitted (u : Tables) (n : ℕ) (b : Bodies) : Type 0 where
   pub count : length b.entries ≡ n
-  pub path : IsPath u b 0 b.steps (λ spot all. Unit {0}) (λ spot all. AllBegin spot all u b.entries)
+  pub path : IsPath (code_of u) b 0 b.steps (λ spot all. Unit {0}) (λ spot all. AllBegin spot all (code_of u) b.entries)
+  pub places : length b.places ≡ length u.program.stmts
+  pub stmts : (m at : ℕ) (s : Stmt) → m < n → HasStmt u m at s → HasStepOf (setting_at u m) b at s
+  pub returns : (m : ℕ) (d : Method) (e : Entry) → method_at u m ≡ Some d → slice_get b.entries m ≡ Some e → HasReturnOf (setting_at u m) b d e
 
 -- the table is that of a method of the program
 pub record HasMethod (p : Listing) (t : MethodTable) : Type 0 where

@@ -18,6 +18,7 @@ pub record Grows (old new : Bodies) : Type 0 where
   pub arguments : HasMore old.arguments new.arguments
   pub sides : new.sides ≡ old.sides
   pub steps : new.steps ≡ old.steps
+  pub places : new.places ≡ old.places
   pub entries : new.entries ≡ old.entries
   pub run : new.run ≡ old.run
   pub fields : new.fields ≡ old.fields

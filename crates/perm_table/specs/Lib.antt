@@ -6,4 +6,5 @@ pub mod Numbering
 pub mod Numbers
 pub mod Operands
 pub mod Runs
+pub mod StepPlaces
 pub mod Walks

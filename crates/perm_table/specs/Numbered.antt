@@ -12,7 +12,8 @@ use Rattle.perm_tree.specs.declared.bodies.Expression.{Expression}
 use Rattle.perm_tree.specs.BodyTerms.{argument_of, expression_term, instruction_of, AreArgumentsIn, IsActionIn, IsArgumentIn, IsExpressionIn}
 use Rattle.perm_tree.specs.Code as code
 use Rattle.perm_tree.specs.Code.{Code, Do, Instruction, Term, Tie, UnitCode}
-use Rattle.perm_tree.specs.CodeOf.{assignment, kind_code, Setting}
+use Rattle.perm_tree.specs.CodeNames.{Setting}
+use Rattle.perm_tree.specs.CodeOf.{assignment, kind_code}
 use Rattle.perm_tree.specs.Links.{IsSimple}
 use Rattle.perm_tree.specs.Places.{ArgPlaced, ArgsPlaced}
 use Rattle.perm_table.specs.Growth.{Grows}

@@ -6,7 +6,7 @@ use Rattle.perm_tree.specs.declared.ast.Shape.TheVariants.{Class}
 use Rattle.perm_tree.specs.declared.ast.Ty.{Ty}
 use Rattle.perm_tree.specs.declared.ast.Ty.TheVariants.{Ref}
 use Rattle.perm_tree.specs.declared.unit.VarInfo.{VarInfo}
-use Rattle.perm_tree.specs.CodeOf.{Setting, setting}
+use Rattle.perm_tree.specs.CodeNames.{Setting, setting}
 use Rattle.perm_tree.specs.Lookup.{class_place}
 use Rattle.perm_tree.specs.Places.{Listing}
 use Rattle.perm_tree.specs.UnitTables.{Tables}

@@ -9,7 +9,7 @@ use Rattle.perm_tree.specs.declared.bodies.Operation.TheVariants as operations
 use Rattle.perm_tree.specs.declared.unit.VarInfo.{VarInfo}
 use Rattle.perm_tree.specs.BodyTerms.{operand_term, operation_term, operation_terms, IsOperandBelow, IsOperationBelow, AreOrdered}
 use Rattle.perm_tree.specs.Code.{Term}
-use Rattle.perm_tree.specs.CodeOf.{term_at}
+use Rattle.perm_tree.specs.CodeNames.{term_at}
 use Rattle.perm_tree.specs.Lookup.{var_place}
 use Rattle.perm_tree.specs.Lows.{lows_of}
 use Rattle.perm_table.specs.Numbering.{Naming, setting_of}

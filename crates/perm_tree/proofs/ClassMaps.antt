@@ -98,7 +98,7 @@ all-front n (x ∷ xs) ys below = (below.0, all-front n xs ys below.1)
 -- ---------- programs ----------
 -- the numbers of the class names are in range
 pub classes-below : (p : Listing) → IsWellFormed p → AllBelow (length p.names) (map (λ c. c.name.name) p.classes)
-classes-below p formed = all-front (length p.names) (map (λ c. c.name.name) p.classes) (map (λ f. f.name.name) (flat_map (λ c. c.fields) p.classes) ++ flat_map mark_names (marks_of p)) formed.orderly.named
+classes-below p formed = all-front (length p.names) (map (λ c. c.name.name) p.classes) (map (λ f. f.name.name) (flat_map (λ c. c.fields) p.classes) ++ mark_names (marks_of p)) formed.orderly.named
 
 module _ (p : Listing) (name : ℕ) (formed : IsWellFormed p) where
   -- a name that isn't there is that of no class

@@ -12,7 +12,8 @@ use Rattle.perm_tree.specs.declared.ast.StmtKind.{StmtKind}
 use Rattle.perm_tree.specs.declared.ast.StmtKind.TheVariants.{Declare as DeclareStmt, Assign as AssignStmt, SetField, SetItem, Call as CallStmt, Print as PrintStmt, If as IfStmt, While as WhileStmt, Par as ParStmt}
 use Rattle.perm_tree.specs.declared.unit.VarInfo.{VarInfo}
 use Rattle.perm_tree.specs.Code.{NullLit, Unary, Binary, Code, End, Give, If, While, Par, Recover}
-use Rattle.perm_tree.specs.CodeOf.{Setting, setting, term_of, terms_of, term_at, var_at, own_vars, tied_before, sequence, assignment, kind_code, codes_of, stmt_code, block_code}
+use Rattle.perm_tree.specs.CodeNames.{Setting, setting, term_of, terms_of, term_at, var_at, own_vars, tied_before}
+use Rattle.perm_tree.specs.CodeOf.{sequence, assignment, kind_code, codes_of, stmt_code, block_code}
 use Rattle.perm_tree.specs.Places.{AllBelow, ExprBelow, RhsPlaced, ElseBelow, KindPlaced, IsPlaced}
 use Rattle.perm_tree.specs.Scopes.{else_stmts}
 use Rattle.perm_tree.specs.UnitTables.{Tables}

@@ -1,11 +1,13 @@
 pub mod AcceptedNames
 pub mod BlockRows
+pub mod BodiesApart
 pub mod Builder
 pub mod ClassMaps
 pub mod CodeLaws
 pub mod Entries
 pub mod Examples
 pub mod FoundPlaces
+pub mod HeldStatements
 pub mod LowLaws
 pub mod Lows
 pub mod MentionLaws
@@ -25,4 +27,5 @@ pub mod RoutineLaws
 pub mod RunLaw
 pub mod ScopeRows
 pub mod SetWords
+pub mod StandOnce
 pub mod TableLaws

@@ -4,7 +4,6 @@ use borrow.Author.Count.{below_more}
 use Rattle.std.specs.Prelude.{All, map, flat_map, get_or, slice_get}
 use Rattle.std.proofs.Math.ListN.{get_or-append}
 use Rattle.std.proofs.Math.Seq.{get_or-append_seam}
-use Rattle.std.proofs.lemmas.List.{map-append}
 use Rattle.std.proofs.lemmas.List.Elements.{All-nil, All-cons, All-append}
 use Rattle.perm_tree.specs.declared.ast.Block.{Block}
 use Rattle.perm_tree.specs.declared.ast.ClassDecl.{ClassDecl}
@@ -22,10 +21,10 @@ use Rattle.perm_tree.specs.Nesting.{AreNested, AllNested}
 use Rattle.perm_tree.specs.Places.{Listing, IsPlaced, AllBelow, ElseBelow, RhsPlaced, KindPlaced, MethodPlaced, ClassPlaced}
 use Rattle.perm_tree.specs.Resolves.{IsResolved}
 use Rattle.perm_tree.specs.Scopes.{declared_by, declared_if, known_until, end_if, block_end, block_vars, braced_vars, else_stmts, rhs_vars, inner_vars, all_inner, this_var, param_var, method_vars, class_tables, tables_from}
-use Rattle.perm_tree.specs.TextOrder.{Mark, names, ends, IsRising, Marks, all_expr_marks, marks_at, arg_marks, block_marks, rhs_marks, kind_marks, stmt_marks, all_stmt_marks, params_marks, method_marks, AreRising}
+use Rattle.perm_tree.specs.TextOrder.{Mark, names, ends, IsRising, Marks, all_expr_marks, marks_at, arg_marks, block_marks, rhs_marks, kind_marks, stmt_marks, all_stmt_marks, params_marks, method_marks, methods_marks}
 use Rattle.perm_tree.specs.UnitTables.{Tables}
-use Rattle.perm_tree.proofs.MethodMarks.{rising-parts}
-use Rattle.perm_tree.proofs.Passing.{rising-less, AllPass, past-name, pass-at, exprs-pass, arg-passes, call-passes}
+use Rattle.perm_tree.proofs.MethodMarks.{methods-append}
+use Rattle.perm_tree.proofs.Passing.{rising-less, AllPass, past-name, pass-at, exprs-pass, arg-passes, call-passes, method-passes, methods-pass}
 use Rattle.perm_tree.proofs.ScopeRows.{Laid, Opens, laid-nil, laid-more, laid-append, laid-cons, laid-nested, opens-room, opens-laid}
 
 -- two names
@@ -254,14 +253,14 @@ module _ (p : Listing) (placed : IsPlaced p) where
       all-told exprs pass p.stmts (length p.exprs) placed.stmts [] [] p.stmts refl (λ j s q. subst (λ n. slice_get p.stmts n ≡ Some s) (omega arith) q) (λ j none. absurd (omega arith)) k (omega arith)
 
   -- the variables of a method
-  method-nested : (class : ℕ) (d : Method) → MethodPlaced (length p.exprs) (length p.stmts) d → IsRising 0 (method_marks p.exprs p.stmts d) → AreNested (method_vars p.stmts inner class d)
-  method-nested class d below rise =
+  method-nested : (class : ℕ) (d : Method) → MethodPlaced (length p.exprs) (length p.stmts) d → (others : List Mark) → IsRising 0 (method_marks p.exprs p.stmts d others) → AreNested (method_vars p.stmts inner class d)
+  method-nested class d below others rise =
       let x = d.name.span.start in
       let body = block_vars p.stmts inner d.span.end d.body.stmts in
-      let rest = arg_marks exprs d.back (ends d.span.end ∷ []) in
+      let rest = arg_marks exprs d.back (ends d.span.end ∷ others) in
       let later : (from : ℕ) → x < from → IsRising from (block_marks stmts d.body.stmts rest) → Laid x from d.span.end body = λ from after r.
       let block = block-told exprs pass p.stmts stmts inner (length p.stmts) told from d.body.stmts rest below.0 r in
-      let back : IsRising (block_end p.stmts from d.body.stmts) (ends d.span.end ∷ []) = arg-passes exprs pass d.back (block_end p.stmts from d.body.stmts) (ends d.span.end ∷ []) block.1 in
+      let back : IsRising (block_end p.stmts from d.body.stmts) (ends d.span.end ∷ others) = arg-passes exprs pass d.back (block_end p.stmts from d.body.stmts) (ends d.span.end ∷ others) block.1 in
       laid-more from from d.span.end x from d.span.end body (omega arith) (omega arith) (omega arith) (block.2 d.span.end back.0) in
       laid-nested
       x
@@ -287,29 +286,29 @@ module _ (p : Listing) (placed : IsPlaced p) where
 
   -- ---------- tables ----------
   class-nested : (class m : ℕ) (ds : List Method) → ((j : ℕ) (d : Method) → slice_get ds j ≡ Some d → MethodPlaced (length p.exprs) (length p.stmts) d)
-      → AreRising (map (method_marks p.exprs p.stmts) ds) → All Nested (class_tables p.stmts inner class m ds)
-  class-nested class m [] bodies rise = All-nil Nested
-  class-nested class m (d ∷ ds) bodies rise =
+      → (rest : List Mark) → IsRising 0 (methods_marks p.exprs p.stmts ds rest) → All Nested (class_tables p.stmts inner class m ds)
+  class-nested class m [] bodies rest rise = All-nil Nested
+  class-nested class m (d ∷ ds) bodies rest rise =
+      let others = methods_marks p.exprs p.stmts ds rest in
       All-cons
       Nested
       (record { class = class; «method» = m; vars = method_vars p.stmts inner class d })
       (class_tables p.stmts inner class (suc m) ds)
-      (method-nested class d (bodies zero d refl) rise.0)
-      (class-nested class (suc m) ds (λ j e q. bodies (suc j) e q) rise.1)
+      (method-nested class d (bodies zero d refl) others rise)
+      (class-nested class (suc m) ds (λ j e q. bodies (suc j) e q) rest (method-passes p.exprs p.stmts d 0 others rise))
 
   tables-nested : (k : ℕ) (cs : List ClassDecl) → ((j : ℕ) (c : ClassDecl) → slice_get cs j ≡ Some c → ClassPlaced (length p.exprs) (length p.stmts) c)
-      → AreRising (map (method_marks p.exprs p.stmts) (flat_map (λ c. c.methods) cs)) → All Nested (tables_from p.stmts inner k cs)
+      → IsRising 0 (methods_marks p.exprs p.stmts (flat_map (λ c. c.methods) cs) []) → All Nested (tables_from p.stmts inner k cs)
   tables-nested k [] bodies rise = All-nil Nested
   tables-nested k (c ∷ cs) bodies rise =
-      let marks = method_marks p.exprs p.stmts in
-      let others = flat_map (λ c. c.methods) cs in
-      let parts = rising-parts (map marks c.methods) (map marks others) (subst AreRising (map-append marks c.methods others) rise) in
+      let others = methods_marks p.exprs p.stmts (flat_map (λ c. c.methods) cs) [] in
+      let split : IsRising 0 (methods_marks p.exprs p.stmts c.methods others) = subst (IsRising 0) (methods-append p.exprs p.stmts c.methods (flat_map (λ c. c.methods) cs) []) rise in
       All-append
       Nested
       (class_tables p.stmts inner k 0 c.methods)
       (tables_from p.stmts inner (suc k) cs)
-      (class-nested k 0 c.methods (bodies zero c refl) parts.0)
-      (tables-nested (suc k) cs (λ j e q. bodies (suc j) e q) parts.1)
+      (class-nested k 0 c.methods (bodies zero c refl) others split)
+      (tables-nested (suc k) cs (λ j e q. bodies (suc j) e q) (methods-pass p.exprs p.stmts c.methods 0 others split))
 
 -- the variables of each method of a resolved unit
 pub IsResolved-nested : (u : Tables) → IsResolved u → AllNested u.tables

@@ -11,7 +11,7 @@ use Rattle.perm_tree.specs.declared.ast.Rhs.TheVariants.{Value, Item, NewArray, 
 use Rattle.perm_tree.specs.declared.ast.Stmt.{Stmt}
 use Rattle.perm_tree.specs.declared.ast.StmtKind.{StmtKind}
 use Rattle.perm_tree.specs.declared.ast.StmtKind.TheVariants.{Declare, Assign, SetField, SetItem, Call as CallStmt, Print, If, While, Par}
-use Rattle.perm_tree.specs.Places.{AllBelow, ArgPlaced, ArgsPlaced, ClassPlaced, ExprBelow, IsPlaced, KindPlaced, Listing, MethodPlaced, RhsPlaced}
+use Rattle.perm_tree.specs.Places.{AllBelow, ArgPlaced, ArgsPlaced, ClassPlaced, ExprBelow, IsPlaced, KindPlaced, LiteralFits, Listing, MethodPlaced, RhsPlaced}
 
 -- an element of a list with one more is one of the list, or the new one
 pub get_push : {X : Type 0} (xs : List X) (x : X) (i : ℕ) (y : X) → slice_get (xs ++ x ∷ []) i ≡ Some y → (slice_get xs i ≡ Some y) ⊎ ((i ≡ length xs) × (x ≡ y))
@@ -65,9 +65,10 @@ method_more exprs exprs' stmts stmts' d le le' b = (all_more stmts stmts' d.body
 length_more : {X : Type 0} (xs : List X) (x : X) → length xs ≤ length (xs ++ x ∷ [])
 length_more xs x = omega (arith, length-append xs (x ∷ []))
 
-pub more_exprs : (p : Listing) (e : Expr) → IsPlaced p → ExprBelow (length p.exprs) e → IsPlaced (record p { exprs = p.exprs ++ e ∷ [] })
-more_exprs p e w b = record {
+pub more_exprs : (p : Listing) (e : Expr) → IsPlaced p → ExprBelow (length p.exprs) e → LiteralFits e → IsPlaced (record p { exprs = p.exprs ++ e ∷ [] })
+more_exprs p e w b fits = record {
   exprs = λ at x q. pick at x (get_push p.exprs e at x q);
+  literals = λ at x q. fit at x (get_push p.exprs e at x q);
   stmts = λ at s q. kind_more (length p.exprs) (length (p.exprs ++ e ∷ [])) at s.kind le (w.stmts at s q);
   bodies = λ k c q m d r. method_more (length p.exprs) (length (p.exprs ++ e ∷ [])) (length p.stmts) (length p.stmts) d le (omega arith) (w.bodies k c q m d r);
 }
@@ -79,9 +80,14 @@ more_exprs p e w b = record {
     pick at x (inl h) = w.exprs at x h
     pick at x (inr h) = subst (λ n. ExprBelow n x) (sym h.0) (subst (λ y. ExprBelow (length p.exprs) y) h.1 b)
 
+    fit : (at : ℕ) (x : Expr) → (slice_get p.exprs at ≡ Some x) ⊎ ((at ≡ length p.exprs) × (e ≡ x)) → LiteralFits x
+    fit at x (inl h) = w.literals at x h
+    fit at x (inr h) = subst LiteralFits h.1 fits
+
 pub more_stmts : (p : Listing) (s : Stmt) → IsPlaced p → KindPlaced (length p.exprs) (length p.stmts) s.kind → IsPlaced (record p { stmts = p.stmts ++ s ∷ [] })
 more_stmts p s w b = record {
   exprs = w.exprs;
+  literals = w.literals;
   stmts = λ at x q. pick at x (get_push p.stmts s at x q);
   bodies = λ k c q m d r. method_more (length p.exprs) (length p.exprs) (length p.stmts) (length (p.stmts ++ s ∷ [])) d (omega arith) (length_more p.stmts s) (w.bodies k c q m d r);
 }
@@ -93,6 +99,7 @@ more_stmts p s w b = record {
 pub more_classes : (p : Listing) (c : ClassDecl) → IsPlaced p → ClassPlaced (length p.exprs) (length p.stmts) c → IsPlaced (record p { classes = p.classes ++ c ∷ [] })
 more_classes p c w b = record {
   exprs = w.exprs;
+  literals = w.literals;
   stmts = w.stmts;
   bodies = λ k x q. pick k x (get_push p.classes c k x q);
 }

@@ -72,6 +72,7 @@ changed-at g (x ∷ xs) (suc at) y here = changed-at g xs at y here
 pub resolved-placed : (p : Listing) → IsPlaced p → IsPlaced (resolved p)
 resolved-placed p placed = record {
   exprs = placed.exprs;
+  literals = placed.literals;
   stmts = λ at s here. stmt at s (changed-at (renamed_stmt (class_place p)) p.stmts at s here);
   bodies = λ k c here m d there. body k c m d (changed-at (renamed_class (class_place p)) p.classes k c here) there;
 }

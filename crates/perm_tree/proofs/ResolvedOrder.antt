@@ -1,4 +1,4 @@
--- Resolving leaves the marks of each method and the numbers of names.
+-- Resolving leaves the marks of the methods and the numbers of names.
 use Rattle.std.proofs.Common.{◌≡◌, ℕ, List, [], ◌∷◌, ◌++◌, refl, sym, ap, ◌∙◌}
 use Rattle.std.specs.Prelude.{map, flat_map}
 use Rattle.std.proofs.lemmas.List.{map-append}
@@ -11,7 +11,7 @@ use Rattle.perm_tree.specs.Entries.{entries_from}
 use Rattle.perm_tree.specs.Lookup.{class_place}
 use Rattle.perm_tree.specs.Places.{Listing}
 use Rattle.perm_tree.specs.Resolves.{renamed_decl, renamed_method, renamed_class, renamed_kind, renamed_stmt, resolved}
-use Rattle.perm_tree.specs.TextOrder.{Marks, Mark, names, ends, mark_names, all_expr_marks, arg_marks, block_marks, kind_marks, stmt_marks, all_stmt_marks, params_marks, method_marks, methods_of, marks_of}
+use Rattle.perm_tree.specs.TextOrder.{Marks, Mark, names, ends, mark_names, all_expr_marks, arg_marks, block_marks, kind_marks, stmt_marks, all_stmt_marks, params_marks, method_marks, methods_marks, methods_of, marks_of}
 use Rattle.perm_tree.specs.WellFormed.{name_numbers}
 use Rattle.perm_tree.proofs.ResolvedLaws.{map-unseen}
 
@@ -53,9 +53,9 @@ module _ (p : Listing) where
   params-marks (f ∷ fs) rest = ap (λ ms. names f.name ∷ ms) (params-marks fs rest)
 
   -- a resolved method has the same marks
-  method-marks : (d : Method) → method_marks p.exprs (map (renamed_stmt (class_place p)) p.stmts) (renamed_method (class_place p) d) ≡ method_marks p.exprs p.stmts d
-  method-marks d =
-      let back = arg_marks (all_expr_marks p.exprs) d.back (ends d.span.end ∷ []) in
+  method-marks : (d : Method) (rest : List Mark) → method_marks p.exprs (map (renamed_stmt (class_place p)) p.stmts) (renamed_method (class_place p) d) rest ≡ method_marks p.exprs p.stmts d rest
+  method-marks d rest =
+      let back = arg_marks (all_expr_marks p.exprs) d.back (ends d.span.end ∷ rest) in
       let params = params-marks d.params in
       (λ j. names d.name ∷ params (block_marks (all_stmt_marks p.exprs (map (renamed_stmt (class_place p)) p.stmts)) d.body.stmts back) j)
       ∙ (λ j. names d.name ∷ params_marks d.params (block_marks (stmts-marks j) d.body.stmts back))
@@ -64,16 +64,15 @@ module _ (p : Listing) where
   pub methods-resolved : methods_of (resolved p) ≡ map (renamed_method (class_place p)) (methods_of p)
   methods-resolved = flat_map-changed (λ c. c.methods) (renamed_class (class_place p)) (renamed_method (class_place p)) p.classes (λ c. refl)
 
-  methods-marks : (ds : List Method) → map (method_marks p.exprs (map (renamed_stmt (class_place p)) p.stmts)) (map (renamed_method (class_place p)) ds) ≡ map (method_marks p.exprs p.stmts) ds
-  methods-marks [] = refl
-  methods-marks (d ∷ ds) =
-      let here = method-marks d in
-      let rest = methods-marks ds in
-      λ j. here j ∷ rest j
+  methods-marks : (ds : List Method) (rest : List Mark) → methods_marks p.exprs (map (renamed_stmt (class_place p)) p.stmts) (map (renamed_method (class_place p)) ds) rest ≡ methods_marks p.exprs p.stmts ds rest
+  methods-marks [] rest = refl
+  methods-marks (d ∷ ds) rest =
+      method-marks d (methods_marks p.exprs (map (renamed_stmt (class_place p)) p.stmts) (map (renamed_method (class_place p)) ds) rest)
+      ∙ ap (method_marks p.exprs p.stmts d) (methods-marks ds rest)
 
-  -- resolving leaves the marks of each method
+  -- resolving leaves the marks of all methods
   pub marks_of-resolved : marks_of (resolved p) ≡ marks_of p
-  marks_of-resolved = ap (map (method_marks p.exprs (map (renamed_stmt (class_place p)) p.stmts))) methods-resolved ∙ methods-marks (methods_of p)
+  marks_of-resolved = ap (λ ds. methods_marks p.exprs (map (renamed_stmt (class_place p)) p.stmts) ds []) methods-resolved ∙ methods-marks (methods_of p) []
 
   -- ---------- names ----------
   class-numbers : map (λ c. c.name.name) (map (renamed_class (class_place p)) p.classes) ≡ map (λ c. c.name.name) p.classes
@@ -86,4 +85,4 @@ module _ (p : Listing) where
 
   -- the names of the resolved program have the same numbers
   pub numbers-resolved : name_numbers (resolved p) ≡ name_numbers p
-  numbers-resolved = λ j. class-numbers j ++ (field-numbers j ++ flat_map mark_names (marks_of-resolved j))
+  numbers-resolved = λ j. class-numbers j ++ (field-numbers j ++ mark_names (marks_of-resolved j))

@@ -17,7 +17,7 @@ use Rattle.perm_tree.specs.Names.{names_refusal}
 use Rattle.perm_tree.specs.Places.{AllBelow, Listing}
 use Rattle.perm_tree.specs.Resolves.{renamed_ty, renamed_decl, renamed_method, renamed_class, renamed_kind, renamed_stmt, renamed_mention, resolved, unmentioned, Resolves, IsResolved}
 use Rattle.perm_tree.specs.Scopes.{declared_by, tables_of}
-use Rattle.perm_tree.specs.TextOrder.{AreRising}
+use Rattle.perm_tree.specs.TextOrder.{IsRising}
 use Rattle.perm_tree.specs.UnitTables.{Tables}
 use Rattle.perm_tree.specs.WellFormed.{ty_classes, decl_classes, method_classes, member_classes, stmt_classes, type_classes, mention_numbers, IsOrderly, IsWellFormed}
 use Rattle.perm_tree.proofs.AcceptedNames.{names_refusal-accepted, names_refusal-unmentioned}
@@ -123,7 +123,7 @@ module _ (p : Listing) where
     mentioned =
         subst (λ ms. All (Contains ms) (type_classes (resolved p))) (sym (mention-numbers p.mentions))
         (subst (All (Contains (map number (mention_numbers p)))) (sym type-classes) (all-among-map number (mention_numbers p) (type_classes p) orderly.mentioned));
-    ordered = subst AreRising (sym (marks_of-resolved p)) orderly.ordered;
+    ordered = subst (IsRising 0) (sym (marks_of-resolved p)) orderly.ordered;
     once = resolved-once p orderly.once;
     blocks = resolved-shallow p orderly.blocks;
     operands = orderly.operands;

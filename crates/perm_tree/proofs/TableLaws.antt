@@ -1,6 +1,6 @@
 -- The tables of a program name its methods, and there is one routine for each.
 use Rattle.std.proofs.Common.{◌≡◌, ℕ, zero, suc, ◌+◌, List, [], ◌∷◌, ◌++◌, length, Option, Some, refl, sym, ap, subst, arith, add-zero}
-use Rattle.std.specs.Prelude.{slice_get}
+use Rattle.std.specs.Prelude.{flat_map, slice_get}
 use Rattle.perm_tree.specs.declared.ast.ClassDecl.{ClassDecl}
 use Rattle.perm_tree.specs.declared.ast.Method.{Method}
 use Rattle.perm_tree.specs.declared.unit.MethodTable.{MethodTable}
@@ -9,6 +9,7 @@ use Rattle.perm_tree.specs.CodeOf.{routine, routine_if, routines_of}
 use Rattle.perm_tree.specs.Lookup.{method_in, method_of}
 use Rattle.perm_tree.specs.Places.{Listing}
 use Rattle.perm_tree.specs.Scopes.{method_vars, all_inner, class_tables, tables_from, tables_of}
+use Rattle.perm_tree.specs.TextOrder.{methods_of}
 use Rattle.perm_tree.specs.UnitTables.{Tables}
 
 -- a table is that of a method, and has its variables
@@ -20,33 +21,52 @@ abbrev pub AllMethods : Listing → List MethodTable → Type 0
 AllMethods p [] = Unit {0}
 AllMethods p (t ∷ ts) = ((d : Method) × IsTable p t d) × AllMethods p ts
 
-AllMethods-append : (p : Listing) (ts us : List MethodTable) → AllMethods p ts → AllMethods p us → AllMethods p (ts ++ us)
-AllMethods-append p [] us f g = g
-AllMethods-append p (t ∷ ts) us f g = (f.0, AllMethods-append p ts us f.1 g)
+-- the tables are those of these methods, one by one
+abbrev pub AreTables : Listing → List MethodTable → List Method → Type 0
+AreTables p [] [] = Unit {0}
+AreTables p (t ∷ ts) (d ∷ ds) = IsTable p t d × AreTables p ts ds
+AreTables p _ _ = ⊥
 
-class_tables-methods : (p : Listing) (class m : ℕ) (ds : List Method)
-    → ((j : ℕ) (d : Method) → slice_get ds j ≡ Some d → method_in (slice_get p.classes class) (m + j) ≡ Some d) → AllMethods p (class_tables p.stmts (all_inner p.stmts) class m ds)
-class_tables-methods p class m [] there = tt
-class_tables-methods p class m (d ∷ ds) there = (
-  (d, (subst (λ n. method_in (slice_get p.classes class) n ≡ Some d) (add-zero m) (there zero d refl), refl)),
-  class_tables-methods p class (suc m) ds (λ j e q. subst (λ n. method_in (slice_get p.classes class) n ≡ Some e) (omega arith) (there (suc j) e q)),
+AreTables-append : (p : Listing) (ts us : List MethodTable) (ds es : List Method) → AreTables p ts ds → AreTables p us es → AreTables p (ts ++ us) (ds ++ es)
+AreTables-append p [] us [] es f g = g
+AreTables-append p [] us (d ∷ ds) es f g = absurd f
+AreTables-append p (t ∷ ts) us [] es f g = absurd f
+AreTables-append p (t ∷ ts) us (d ∷ ds) es f g = (f.0, AreTables-append p ts us ds es f.1 g)
+
+class_tables-are : (p : Listing) (class m : ℕ) (ds : List Method)
+    → ((j : ℕ) (d : Method) → slice_get ds j ≡ Some d → method_in (slice_get p.classes class) (m + j) ≡ Some d) → AreTables p (class_tables p.stmts (all_inner p.stmts) class m ds) ds
+class_tables-are p class m [] there = tt
+class_tables-are p class m (d ∷ ds) there = (
+  (subst (λ n. method_in (slice_get p.classes class) n ≡ Some d) (add-zero m) (there zero d refl), refl),
+  class_tables-are p class (suc m) ds (λ j e q. subst (λ n. method_in (slice_get p.classes class) n ≡ Some e) (omega arith) (there (suc j) e q)),
 )
 
-tables_from-methods : (p : Listing) (k : ℕ) (cs : List ClassDecl)
-    → ((j : ℕ) (c : ClassDecl) → slice_get cs j ≡ Some c → slice_get p.classes (k + j) ≡ Some c) → AllMethods p (tables_from p.stmts (all_inner p.stmts) k cs)
-tables_from-methods p k [] there = tt
-tables_from-methods p k (c ∷ cs) there =
+tables_from-are : (p : Listing) (k : ℕ) (cs : List ClassDecl)
+    → ((j : ℕ) (c : ClassDecl) → slice_get cs j ≡ Some c → slice_get p.classes (k + j) ≡ Some c) → AreTables p (tables_from p.stmts (all_inner p.stmts) k cs) (flat_map (λ c. c.methods) cs)
+tables_from-are p k [] there = tt
+tables_from-are p k (c ∷ cs) there =
     let here : slice_get p.classes k ≡ Some c = subst (λ n. slice_get p.classes n ≡ Some c) (add-zero k) (there zero c refl) in
-    AllMethods-append
+    AreTables-append
     p
     (class_tables p.stmts (all_inner p.stmts) k 0 c.methods)
     (tables_from p.stmts (all_inner p.stmts) (suc k) cs)
-    (class_tables-methods p k 0 c.methods (λ j d q. rw here (subst (λ n. slice_get c.methods n ≡ Some d) (omega arith) q)))
-    (tables_from-methods p (suc k) cs (λ j e q. subst (λ n. slice_get p.classes n ≡ Some e) (omega arith) (there (suc j) e q)))
+    c.methods
+    (flat_map (λ c. c.methods) cs)
+    (class_tables-are p k 0 c.methods (λ j d q. rw here (subst (λ n. slice_get c.methods n ≡ Some d) (omega arith) q)))
+    (tables_from-are p (suc k) cs (λ j e q. subst (λ n. slice_get p.classes n ≡ Some e) (omega arith) (there (suc j) e q)))
 
--- so are the tables of a program
+-- the tables of a program are those of its methods, in order
+pub tables_of-are : (p : Listing) → AreTables p (tables_of p) (methods_of p)
+tables_of-are p = tables_from-are p 0 p.classes (λ j c q. subst (λ n. slice_get p.classes n ≡ Some c) (omega arith) q)
+
+all-methods : (p : Listing) (ts : List MethodTable) (ds : List Method) → AreTables p ts ds → AllMethods p ts
+all-methods p [] [] are = tt
+all-methods p [] (d ∷ ds) are = absurd are
+all-methods p (t ∷ ts) [] are = absurd are
+all-methods p (t ∷ ts) (d ∷ ds) are = ((d, are.0), all-methods p ts ds are.1)
+
 pub tables_of-methods : (p : Listing) → AllMethods p (tables_of p)
-tables_of-methods p = tables_from-methods p 0 p.classes (λ j c q. subst (λ n. slice_get p.classes n ≡ Some c) (omega arith) q)
+tables_of-methods p = all-methods p (tables_of p) (methods_of p) (tables_of-are p)
 
 -- there is one routine for each table
 pub length-routines_of : (u : Tables) (ts : List MethodTable) → AllMethods u.program ts → length (routines_of u ts) ≡ length ts

@@ -1,8 +1,10 @@
 pub mod Blocks
 pub mod BodyTerms
 pub mod Code
+pub mod CodeNames
 pub mod CodeOf
 pub mod Entries
+pub mod InBody
 pub mod Links
 pub mod Lookup
 pub mod Lows
@@ -16,6 +18,7 @@ pub mod Resolves
 pub mod Scopes
 pub mod Shapes
 pub mod Spelling
+pub mod StatementSteps
 pub mod TextOrder
 pub mod TextPlaces
 pub mod Ties

@@ -13,6 +13,7 @@ use Rattle.perm_tree.specs.declared.bodies.Bodies.{Bodies}
 use Rattle.perm_tree.specs.Code.{Code, End, Give, Return, Do, If, While, Par, Recover, Tie, Routine, UnitCode}
 use Rattle.perm_tree.specs.CodeOf.{code_of}
 use Rattle.perm_tree.specs.Mentions.{block_writes}
+use Rattle.perm_tree.specs.StatementSteps.{AreSteps}
 use Rattle.perm_tree.specs.UnitTables.{Tables}
 use Rattle.perm_tree.specs.VarSets.{member}
 use Rattle.perm_tree.specs.BodyTerms.{argument_of, expression_term, instruction_of, IsActionIn}
@@ -168,6 +169,7 @@ pub record AreBodiesOf (u : UnitCode) (b : Bodies) : Type 0 where
   pub run : b.run ≡ u.run
   pub fields : (ts : List Ty) → slice_get u.classes u.main ≡ Some ts → length ts ≡ b.fields
 
--- so of a unit
-abbrev pub AreBodies : Tables → Bodies → Type 0
-AreBodies t b = AreBodiesOf (code_of t) b
+-- the bodies of a unit: its steps are linked as its code goes, and each statement has its step
+pub record AreBodies (t : Tables) (b : Bodies) : Type 0 where
+  pub linked : AreBodiesOf (code_of t) b
+  pub steps : AreSteps t b

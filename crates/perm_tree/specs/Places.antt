@@ -1,8 +1,9 @@
 -- The flat program, and what it is to be well placed.
-use Rattle.std.specs.Prelude.{◌≡◌, ℕ, ◌<◌, List, [], ◌∷◌, length, Option, Some, None, slice_get}
+use Rattle.std.specs.Prelude.{◌≡◌, ℕ, ◌<◌, List, [], ◌∷◌, length, Option, Some, None, slice_get, FitsSigned}
+use mir.Syntax.{w64}
 use Rattle.perm_tree.specs.declared.ast.Ident.{Ident}
 use Rattle.perm_tree.specs.declared.ast.Expr.{Expr}
-use Rattle.perm_tree.specs.declared.ast.Expr.TheVariants.{Unary, Binary}
+use Rattle.perm_tree.specs.declared.ast.Expr.TheVariants.{Number, Unary, Binary}
 use Rattle.perm_tree.specs.declared.ast.Arg.{Arg}
 use Rattle.perm_tree.specs.declared.ast.Arg.TheVariants.{Expr as Plain, Consume}
 use Rattle.perm_tree.specs.declared.ast.Stmt.{Stmt}
@@ -32,6 +33,11 @@ abbrev pub ExprBelow : ℕ → Expr → Type 0
 ExprBelow at (Unary op e) = e < at
 ExprBelow at (Binary op a b) = (a < at) × (b < at)
 ExprBelow at _ = Unit {0}
+
+-- a number that stands in an expression has 64 bits
+abbrev pub LiteralFits : Expr → Type 0
+LiteralFits (Number n) = FitsSigned w64 n
+LiteralFits _ = Unit {0}
 
 -- the expression of an argument is there
 abbrev pub ArgPlaced : ℕ → Arg → Type 0
@@ -77,8 +83,9 @@ MethodPlaced exprs stmts d = AllBelow stmts d.body.stmts × ArgPlaced exprs d.ba
 abbrev pub ClassPlaced : ℕ → ℕ → ClassDecl → Type 0
 ClassPlaced exprs stmts c = (m : ℕ) (d : Method) → slice_get c.methods m ≡ Some d → MethodPlaced exprs stmts d
 
--- each place in a program is in range, and what is inside stands before what holds it
+-- each place in a program is in range, what is inside stands before what holds it, and its numbers have 64 bits
 pub record IsPlaced (p : Listing) : Type 0 where
   pub exprs : (at : ℕ) (e : Expr) → slice_get p.exprs at ≡ Some e → ExprBelow at e
+  pub literals : (at : ℕ) (e : Expr) → slice_get p.exprs at ≡ Some e → LiteralFits e
   pub stmts : (at : ℕ) (s : Stmt) → slice_get p.stmts at ≡ Some s → KindPlaced (length p.exprs) at s.kind
   pub bodies : (k : ℕ) (c : ClassDecl) → slice_get p.classes k ≡ Some c → ClassPlaced (length p.exprs) (length p.stmts) c

@@ -1,5 +1,5 @@
--- The text order of a program: what the spans of a method say of its tree.
-use Rattle.std.specs.Prelude.{ℕ, suc, ◌≤◌, List, [], ◌∷◌, map, flat_map, get_or}
+-- The text order of a program: what its spans say of its trees, within each method and from each method to the next.
+use Rattle.std.specs.Prelude.{ℕ, suc, ◌≤◌, List, [], ◌∷◌, flat_map, get_or}
 use Rattle.perm_tree.specs.declared.ast.Ident.{Ident}
 use Rattle.perm_tree.specs.declared.ast.FieldDecl.{FieldDecl}
 use Rattle.perm_tree.specs.declared.ast.Expr.{Expr}
@@ -111,21 +111,19 @@ params_marks [] rest = rest
 params_marks (f ∷ fs) rest = names f.name ∷ params_marks fs rest
 
 -- those of a method: its name, its parameters, its body, and its `return`
-abbrev pub method_marks : List Expr → List Stmt → Method → List Mark
-method_marks exprs stmts d =
-    let es = all_expr_marks exprs in
-    names d.name ∷ params_marks d.params (block_marks (all_stmt_marks exprs stmts) d.body.stmts (arg_marks es d.back (ends d.span.end ∷ [])))
+abbrev pub method_marks : List Expr → List Stmt → Method → Marks
+method_marks exprs stmts d rest = names d.name ∷ params_marks d.params (block_marks (all_stmt_marks exprs stmts) d.body.stmts (arg_marks (all_expr_marks exprs) d.back (ends d.span.end ∷ rest)))
+
+-- those of some methods, one behind the other
+abbrev pub methods_marks : List Expr → List Stmt → List Method → Marks
+methods_marks exprs stmts [] rest = rest
+methods_marks exprs stmts (d ∷ ds) rest = method_marks exprs stmts d (methods_marks exprs stmts ds rest)
 
 -- ---------- programs ----------
 -- the methods of a program
 abbrev pub methods_of : Listing → List Method
 methods_of p = flat_map (λ c. c.methods) p.classes
 
--- the marks of each method
-abbrev pub marks_of : Listing → List (List Mark)
-marks_of p = map (method_marks p.exprs p.stmts) (methods_of p)
-
--- each list of marks rises
-abbrev pub AreRising : List (List Mark) → Type 0
-AreRising [] = Unit {0}
-AreRising (ms ∷ mss) = IsRising 0 ms × AreRising mss
+-- the marks of all methods
+abbrev pub marks_of : Listing → List Mark
+marks_of p = methods_marks p.exprs p.stmts (methods_of p) []

@@ -12,14 +12,14 @@ use Rattle.perm_tree.specs.Operands.{HasShallowOperands}
 use Rattle.perm_tree.specs.Places.{AllBelow, IsPlaced, Listing}
 use Rattle.perm_tree.specs.Scopes.{declared_by}
 use Rattle.perm_tree.specs.Spelling.{this_word}
-use Rattle.perm_tree.specs.TextOrder.{AreRising, mark_names, marks_of}
+use Rattle.perm_tree.specs.TextOrder.{IsRising, mark_names, marks_of}
 
 -- the numbers of the names of a program's classes and fields, and of the names that stand in its methods
 abbrev pub name_numbers : Listing → List ℕ
 name_numbers p =
     map (λ c. c.name.name) p.classes
     ++ (map (λ f. f.name.name) (flat_map (λ c. c.fields) p.classes)
-    ++ flat_map mark_names (marks_of p))
+    ++ mark_names (marks_of p))
 
 -- the numbers of the classes that a program mentions
 abbrev pub mention_numbers : Listing → List ℕ
@@ -55,13 +55,13 @@ abbrev pub HasThisFirst : List (List ℕ) → Type 0
 HasThisFirst [] = Unit {0}
 HasThisFirst (word ∷ words) = word ≡ this_word
 
--- its names are distinct words, of which the first is `this`, each name in it is one of them, the classes of its types are mentioned, its methods are in text order, each statement stands in one block, and blocks and operands are shallow
+-- its names are distinct words, of which the first is `this`, each name in it is one of them, the classes of its types are mentioned, its methods are in text order, each one and one behind the other, each statement stands in one block, and blocks and operands are shallow
 pub record IsOrderly (p : Listing) : Type 0 where
   pub words : AllPairs (λ v w. v ≢ w) p.names
   pub first : HasThisFirst p.names
   pub named : AllBelow (length p.names) (name_numbers p)
   pub mentioned : All (Contains (mention_numbers p)) (type_classes p)
-  pub ordered : AreRising (marks_of p)
+  pub ordered : IsRising 0 (marks_of p)
   pub once : HasStatementsOnce p
   pub blocks : HasShallowBlocks p.stmts
   pub operands : HasShallowOperands p.exprs

@@ -92,10 +92,11 @@ pub struct Sides {
     pub right: VarSet,
 }
 
-/// Where a method begins, and how many variables it has.
+/// Where a method begins, where its `return` stands, and how many variables it has.
 #[derive(Clone, Copy, Debug)]
 pub struct Entry {
     pub first: u32,
+    pub last: u32,
     pub variables: u32,
 }
 
@@ -106,6 +107,8 @@ pub struct Bodies {
     pub arguments: List<Argument>,
     pub sides: List<Sides>,
     pub steps: List<Step>,
+    /// For each statement of the program the place of its step; for one with a recover block that of the `give`.
+    pub places: List<u32>,
     pub entries: List<Entry>,
     /// The number of the method `Run` of the class `Main`.
     pub run: u32,

@@ -1,7 +1,8 @@
 //! Programs, which are built from the inside out.
 
-ghost use Rattle.std.specs.Prelude.{◌≡◌, ◌<◌, [], ◌∷◌, ◌++◌, length, map, slice_index, IfOk, OnErr, OnOk};
-ghost use Rattle.perm_tree.specs.Places.{AllBelow, ClassPlaced, ExprBelow, IsPlaced, KindPlaced};
+ghost use Rattle.std.specs.Prelude.{◌≡◌, ◌<◌, [], ◌∷◌, ◌++◌, length, map, slice_index, FitsSigned, IfOk, OnErr, OnOk};
+ghost use mir.Syntax.{w64};
+ghost use Rattle.perm_tree.specs.Places.{AllBelow, ClassPlaced, ExprBelow, IsPlaced, KindPlaced, LiteralFits};
 ghost use Rattle.perm_tree.specs.Lows.{low_in, lows_of};
 ghost use Rattle.perm_tree.specs.WellFormed.{IsOrderly, IsWellFormed};
 
@@ -212,6 +213,7 @@ impl ProgramBuilder {
         ensures err { OnErr result (self.new ≡ self.old) }
     {
         let at = place(self.exprs.len())?;
+        literal(&expr);
         let low = low_among(self.lows.as_slice(), at, expr);
         self.lows.reserve(1)?;
         self.exprs.push(expr)?;
@@ -274,6 +276,22 @@ fn place(count: usize) -> Result<u32, NoMemory>
     ensures { IfOk result (λ at. at ≡ count) }
 {
     u32::try_from(count).map_err(|_| NoMemory)
+}
+
+/// Tells the range of a number that stands in an expression.
+fn literal(expr: &Expr)
+    ensures { LiteralFits expr.now }
+{
+    if let Expr::Number(number) = expr {
+        range(number);
+    }
+}
+
+/// Tells the range of a number.
+fn range(number: &i64)
+    ensures { FitsSigned w64 number.now }
+{
+    let _number = *number;
 }
 
 /// The low of an expression behind those whose lows are given.

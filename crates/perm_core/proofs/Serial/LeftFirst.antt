@@ -8,8 +8,9 @@ use Rattle.perm_meaning.specs.NamedHeap.{Held, Op, State, memory, find}
 use Rattle.perm_meaning.specs.Outcome.{Outcome, Ran, RanFull, RanStuck, outcome, opening_state}
 use Rattle.perm_meaning.specs.Steps.{Answer, Found, Refused, Missing, runs, within, leftmost, next_state, answered, asked, granted, asked_with_care, careful, alone}
 use Rattle.perm_meaning.proofs.Leads.{none-some, then-some, then-at}
+use Rattle.perm_meaning.specs.Claims.{Opens}
 use Rattle.perm_core.specs.Core.{core, look, step, core_outcome}
-use Rattle.perm_core.specs.Claims.{IsChecked, Opens}
+use Rattle.perm_core.specs.Claims.{IsChecked}
 use Rattle.perm_core.specs.Serial.{EndsLeftThenRight, RefusedWhereFull}
 use Rattle.perm_core.proofs.Serial.Needs.{runs-append}
 use Rattle.perm_core.proofs.Serial.FreeRuns.{KeepsPictures, HasPicture, Complete, pictured-next, completed}

@@ -13,13 +13,14 @@ use Rattle.perm_meaning.specs.Outcome.{RanFull, RanStuck, outcome, opening_own, 
 use Rattle.perm_meaning.specs.Steady.{IsSteady}
 use Rattle.perm_meaning.specs.HoldsFewer.{StateHoldsFewer}
 use Rattle.perm_meaning.proofs.Leads.{some-inj, none-some, unended}
+use Rattle.perm_meaning.specs.Claims.{Opens}
 use Rattle.perm_meaning.proofs.MovesAndCopies.Ends.{final-fewer}
 use Rattle.perm_meaning.proofs.MovesAndCopies.Events.{event-fewer}
 use Rattle.perm_meaning.proofs.MovesAndCopies.LeftFirst.{told-alike, leftmost-alike}
 use Rattle.perm_meaning.proofs.MovesAndCopies.Runs.{opening-fewer}
 use Rattle.perm_meaning.proofs.MovesAndCopies.RunsBack.{IsLively, has_ended, has_event, StaysLively, alone-back, comes-to-outcome, fills-as-outcome}
 use Rattle.perm_core.specs.Core.{core, look, told_of, core_outcome}
-use Rattle.perm_core.specs.Claims.{IsChecked, Opens}
+use Rattle.perm_core.specs.Claims.{IsChecked}
 use Rattle.perm_core.proofs.Serial.SteadyCodes.{checked-steady}
 use Rattle.perm_core.proofs.Serial.StuckMeanings.CalledCodes.{AllReturn}
 use Rattle.perm_core.proofs.Serial.StuckMeanings.Stops.{IsStopped, Stops}

@@ -10,7 +10,8 @@ use Rattle.perm_meaning.proofs.Leads.{some-inj, none-some}
 use Rattle.perm_meaning.proofs.LeftFirst.WholeRun.{given-not-full}
 use Rattle.perm_core.specs.Core.{step, told_of, core_outcome}
 use Rattle.perm_core.specs.NextPicture.{first_picture}
-use Rattle.perm_core.specs.Claims.{IsChecked, Opens, ReachesPicture, AllHaveNext}
+use Rattle.perm_core.specs.Claims.{IsChecked, ReachesPicture, AllHaveNext}
+use Rattle.perm_meaning.specs.Claims.{Opens}
 use Rattle.perm_core.specs.Serial.{SomeRefused, EndsLeftThenRight, RefusedWhereFull}
 use Rattle.perm_core.proofs.Progress.NextEvents.{has-next}
 use Rattle.perm_core.proofs.OpeningPicture.{opens-with-picture}

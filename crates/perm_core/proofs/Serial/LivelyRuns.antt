@@ -8,9 +8,10 @@ use Rattle.perm_meaning.specs.NamedHeap.{Branch, Final, Op, State, Task, memory,
 use Rattle.perm_meaning.specs.Steps.{Refused, Missing, within, alone, answered, asked, leftmost, leftmost_of}
 use Rattle.perm_meaning.specs.Outcome.{RanFull, RanStuck, outcome, opening_state}
 use Rattle.perm_meaning.proofs.Leads.{none-some}
+use Rattle.perm_meaning.specs.Claims.{Opens}
 use Rattle.perm_meaning.proofs.MovesAndCopies.RunsBack.{IsLively, has_ended, has_event, StaysLively}
 use Rattle.perm_core.specs.Core.{core, look, step, core_outcome}
-use Rattle.perm_core.specs.Claims.{IsChecked, Opens, leaf_at, AllHaveNext}
+use Rattle.perm_core.specs.Claims.{IsChecked, leaf_at, AllHaveNext}
 use Rattle.perm_core.specs.Regions.{Labels}
 use Rattle.perm_core.specs.Picture.{IsPicture}
 use Rattle.perm_core.proofs.Serial.FreeRuns.{KeepsPictures}

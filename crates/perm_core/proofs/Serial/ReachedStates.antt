@@ -17,7 +17,7 @@ module _ (u : UnitCode) (limit : ℕ) (input : List ℤ) (turns : ℕ) where
   -- the core on words does nothing that the core on names doesn't do
   pub no-more-on-words : WordsDoNoMore u limit input turns
   no-more-on-words r checked opens ws s b t t' w run shown event =
-      words-do-no-more u limit input turns r opens ws s b t t' w run shown (reaches-next u limit input turns (λ n. keeps-picture u n) r ws s checked opens.opens run) event
+      words-do-no-more u limit input turns r checked.whole opens ws s b t t' w run shown (reaches-next u limit input turns (λ n. keeps-picture u n) r ws s checked opens.opens run) event
 
   pub opening-reached : ReachesOpening u limit input turns
   opening-reached r checked opens = record { first = r; checked = checked; opens = opens; events = []; run = refl }

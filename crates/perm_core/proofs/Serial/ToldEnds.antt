@@ -8,11 +8,12 @@ use Rattle.perm_meaning.specs.Outcome.{RanStuck, reported, opening_state}
 use Rattle.perm_meaning.specs.Steps.{within, alone}
 use Rattle.perm_meaning.proofs.Leads.{some-inj, none-some}
 use Rattle.perm_meaning.proofs.SameName.{eq-itself}
+use Rattle.perm_meaning.specs.Claims.{Opens}
 use Rattle.perm_core.specs.Core.{core, step, told_of, core_outcome}
 use Rattle.perm_core.specs.Endings.{ByReturn, branch_ends, tree_ends}
 use Rattle.perm_core.specs.Picture.{stands_in}
 use Rattle.perm_core.specs.NextPicture.{first_picture}
-use Rattle.perm_core.specs.Claims.{IsChecked, Opens}
+use Rattle.perm_core.specs.Claims.{IsChecked}
 use Rattle.perm_core.proofs.OpeningPicture.{opens-with-picture}
 use Rattle.perm_core.proofs.KeepsPicture.Trees.NodePremises.{root-node}
 use Rattle.perm_core.proofs.KeepsPicture.Trees.TreeEvents.{is-step, step-event}

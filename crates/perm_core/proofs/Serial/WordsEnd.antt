@@ -18,9 +18,10 @@ use Rattle.perm_meaning.proofs.Leads.{some-inj, none-some, then-some, then-at}
 use Rattle.perm_meaning.proofs.OnWords.OpeningShown.{opening_bases, opening-shown, root-base}
 use Rattle.perm_meaning.proofs.OnWords.Related.{final-alike}
 use Rattle.perm_meaning.proofs.OnWords.WordsRun.{told-on-words, told-heap}
+use Rattle.perm_meaning.specs.Claims.{OpensOnWords}
 use Rattle.perm_core.specs.Core.{step, told_of}
 use Rattle.perm_core.specs.WordCore as word_core
-use Rattle.perm_core.specs.Claims.{IsChecked, OpensOnWords}
+use Rattle.perm_core.specs.Claims.{IsChecked}
 use Rattle.perm_core.specs.Serial.{IsToldOnWords, WordsEndLeftThenRight}
 use Rattle.perm_core.proofs.KeepsPicture.PictureEvents.{keeps-picture}
 use Rattle.perm_core.proofs.WordsShown.{words-do-no-more}
@@ -59,7 +60,7 @@ module _ (u : UnitCode) (limit : ℕ) (input : List ℤ) (turns : ℕ) (r : Rout
   shows-next : (t t' : worded.State) (w : Way) → Shows t → word_core.step u limit t w ≡ Some t' → Shows t'
   shows-next t t' w x e =
       let all = reaches-next u limit input turns (λ limit. keeps-picture u limit) r x.events x.state checked opens.opens x.run in
-      let y = words-do-no-more u limit input turns r opens x.events x.state x.bases t t' w x.run x.shown all e in
+      let y = words-do-no-more u limit input turns r checked.whole opens x.events x.state x.bases t t' w x.run x.shown all e in
       record {
         events = x.events ++ (w ∷ []);
         state = y.0;

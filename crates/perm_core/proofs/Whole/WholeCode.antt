@@ -15,7 +15,8 @@ use Rattle.perm_tree.specs.declared.ast.StmtKind.TheVariants.{Declare as Declare
 use Rattle.perm_tree.specs.declared.unit.MethodTable.{MethodTable}
 use Rattle.perm_tree.specs.declared.unit.VarInfo.{VarInfo}
 use Rattle.perm_tree.specs.Code.{Instruction, LoadField, LoadLength, Tie, Shares, Raises, Lends, Code, End, Give, Return, Do, Routine}
-use Rattle.perm_tree.specs.CodeOf.{Setting, setting, argument, var_at, ty_at, field_at, call, read, sequence, assignment, kind_code, codes_of, routine, code_of}
+use Rattle.perm_tree.specs.CodeNames.{Setting, setting, argument, var_at, ty_at, field_at, call, read}
+use Rattle.perm_tree.specs.CodeOf.{sequence, assignment, kind_code, codes_of, routine, code_of}
 use Rattle.perm_tree.specs.Lookup.{ty_if, var_ty, is_array, method_place}
 use Rattle.perm_tree.specs.Resolves.{IsResolved}
 use Rattle.perm_tree.specs.Scopes.{else_stmts}

@@ -9,6 +9,7 @@ use Rattle.perm_tree.specs.Resolves.{IsResolved}
 use Rattle.perm_tree.specs.UnitTables.{Tables}
 use Rattle.perm_tree.proofs.RoutineLaws.{HasVars, IsResolved-vars}
 use Rattle.perm_tree.proofs.RunLaw.{HasRun, IsResolved-run, good_run-types}
+use Rattle.perm_meaning.proofs.UnitLiterals.{IsResolved-fits}
 use Rattle.perm_core.specs.Whole.{IsWholeRoutine, IsRun, IsWhole}
 use Rattle.perm_rules.proofs.Pars.{IsResolved-scoped}
 use Rattle.perm_core.proofs.Whole.WholeCode.{IsResolved-returns, IsResolved-calls}
@@ -41,6 +42,7 @@ run-right u run = let types = good_run-types run.«method» run.good in record {
 pub resolved-whole : (u : Tables) → IsResolved u → IsWhole (code_of u)
 resolved-whole u is = record {
   routines = λ at r here. routine-whole u at r is here;
+  fits = IsResolved-fits u is;
   fields = IsResolved-fields u is;
   main = main-there u (IsResolved-run u is);
   first = routine u (IsResolved-run u is).table (IsResolved-run u is).«method»;

@@ -20,7 +20,7 @@ use Rattle.perm_meaning.specs.Shows.{Bases, Grows, IsWordOf, AnyMark, HeapShown,
 use Rattle.perm_meaning.specs.Literals.{UnitFits}
 use Rattle.perm_meaning.specs.Outcome.{Outcome, Report, Ran, RanFull, RanStuck, reported, opening_state}
 use Rattle.perm_meaning.specs.Told.{IsTold}
-use Rattle.perm_meaning.specs.Claims.{BeginsOnWords, AfterLeftFirstOnWords, WordsShowNames, WordsEndAsMeaning, WordsFillAsMeaning}
+use Rattle.perm_meaning.specs.Claims.{AfterLeftFirstOnWords, WordsShowNames, WordsEndAsMeaning, WordsFillAsMeaning, OpensOnWords}
 use Rattle.perm_meaning.proofs.Leads.{some-inj, none-some}
 use Rattle.perm_meaning.proofs.OnWords.Related.{final-alike, leftmost-related}
 use Rattle.perm_meaning.proofs.OnWords.Simulate.{AllFit, IsFit, same-step, same-refusal, same-alone}
@@ -132,21 +132,21 @@ other-end b (Some x) None f h e = absurd h
 other-end b (Some x) (Some g) f h e = (g, refl, subst (λ z. FinalR (IsWordOf b) z g) (some-inj e) h)
 
 -- ---------- the laws ----------
-module _ (u : UnitCode) (limit : ℕ) where
+module _ (u : UnitCode) (uf : UnitFits u) (limit : ℕ) where
   -- the words show the names after so many events
-  shown-after : (c : Custody) (input : List ℤ) (turns : ℕ) (r : Routine) (i : BeginsOnWords u limit input r) (n : ℕ) (s : State) → alone (named c u) (memory u) (within limit) n (opening_state u input turns r) ≡ Some s
-      → (d : Bases) × (t : on_words.State) × AfterLeftFirstOnWords u limit c input turns r n t × Grows (opening_bases u input i.numbers) d × IsShownBy d s t × IsKept c u i.code (within limit) s
+  shown-after : (c : Custody) (input : List ℤ) (turns : ℕ) (r : Routine) (i : OpensOnWords u limit input r) (n : ℕ) (s : State) → alone (named c u) (memory u) (within limit) n (opening_state u input turns r) ≡ Some s
+      → (d : Bases) × (t : on_words.State) × AfterLeftFirstOnWords u limit c input turns r n t × Grows (opening_bases u input i.numbers) d × IsShownBy d s t × IsKept c u uf (within limit) s
   shown-after c input turns r i n s e =
-      words-alone c u i.code (within limit) (within-small limit i.bases) n (opening_bases u input i.numbers) (opening_state u input turns r) s (on_words.opening_state u input turns r)
-      (opening-kept u limit input turns r (routine-fits u.routines u.run r i.code i.run)) (opening-shown u input i.numbers limit turns r i.fits i.bases) e
+      words-alone c u uf (within limit) (within-small limit i.bases) n (opening_bases u input i.numbers) (opening_state u input turns r) s (on_words.opening_state u input turns r)
+      (opening-kept u limit input turns r (routine-fits u.routines u.run r uf i.opens.run)) (opening-shown u input i.numbers limit turns r i.opens.fits i.bases) e
 
-pub words-show-names : (u : UnitCode) (limit : ℕ) (c : Custody) (input : List ℤ) (turns : ℕ) → WordsShowNames u limit c input turns
-words-show-names u limit c input turns r i n s e = let x = shown-after u limit c input turns r i n s e in (x.1, x.2, (x.0, x.4))
+pub words-show-names : (u : UnitCode) → UnitFits u → (limit : ℕ) (c : Custody) (input : List ℤ) (turns : ℕ) → WordsShowNames u limit c input turns
+words-show-names u uf limit c input turns r i n s e = let x = shown-after u uf limit c input turns r i n s e in (x.1, x.2, (x.0, x.4))
 
-pub words-end-as-meaning : (u : UnitCode) (limit : ℕ) (input : List ℤ) (turns : ℕ) → WordsEndAsMeaning u limit input turns
-words-end-as-meaning u limit input turns r report i e =
-    let x = ends-as-meaning u limit input turns r i.run i.fits (λ q. stuck (sym e ∙ q)) (λ q. full (sym e ∙ q)) in
-    let y = shown-after u limit Copies input turns r i x.0 x.1 x.3 in
+pub words-end-as-meaning : (u : UnitCode) → UnitFits u → (limit : ℕ) (input : List ℤ) (turns : ℕ) → WordsEndAsMeaning u limit input turns
+words-end-as-meaning u uf limit input turns r report i e =
+    let x = ends-as-meaning u limit input turns r i.opens.run i.opens.fits (λ q. stuck (sym e ∙ q)) (λ q. full (sym e ∙ q)) in
+    let y = shown-after u uf limit Copies input turns r i x.0 x.1 x.3 in
     let z = other-end y.0 (final x.1.task) (final y.1.task) x.2 (final-alike (IsWordOf y.0) AnyMark x.1.task y.1.task y.4.task) x.4 in
     record {
       events = x.0;
@@ -166,9 +166,9 @@ words-end-as-meaning u limit input turns r report i e =
     full : Ran report ≡ RanFull → ⊥
     full q = absurd (cc)
 
-pub words-fill-as-meaning : (u : UnitCode) (limit : ℕ) (input : List ℤ) (turns : ℕ) → WordsFillAsMeaning u limit input turns
-words-fill-as-meaning u limit input turns r i e =
-    let x = fills-as-meaning u limit input turns r i.run i.fits e in
-    let y = shown-after u limit Copies input turns r i x.0 x.1 x.3 in
-    let z = words-refusal Copies u i.code (within limit) (within-small limit i.bases) y.0 x.1 y.1 x.2 y.5 y.4 x.4 x.5 in
+pub words-fill-as-meaning : (u : UnitCode) → UnitFits u → (limit : ℕ) (input : List ℤ) (turns : ℕ) → WordsFillAsMeaning u limit input turns
+words-fill-as-meaning u uf limit input turns r i e =
+    let x = fills-as-meaning u limit input turns r i.opens.run i.opens.fits e in
+    let y = shown-after u uf limit Copies input turns r i x.0 x.1 x.3 in
+    let z = words-refusal Copies u uf (within limit) (within-small limit i.bases) y.0 x.1 y.1 x.2 y.5 y.4 x.4 x.5 in
     (x.0, y.1, z.0, y.2, z.1, z.2)

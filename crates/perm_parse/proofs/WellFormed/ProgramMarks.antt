@@ -1,10 +1,9 @@
 -- The marks of statements, methods and classes stand at their tokens: a program is in text order where its tokens are.
-use Rattle.std.proofs.Common.{◌≡◌, ℕ, List, [], ◌∷◌, ◌++◌, length, map, refl, sym, ◌∙◌, ap, subst, arith, append-nil}
+use Rattle.std.proofs.Common.{◌≡◌, ℕ, List, [], ◌∷◌, ◌++◌, length, refl, sym, ◌∙◌, ap, subst, arith, append-nil}
 use Rattle.std.specs.List.{flat_map}
 use Rattle.std.proofs.lemmas.Grind.{flat_map-append}
-use Rattle.std.proofs.lemmas.List.{map-append}
 use Rattle.perm_tree.specs.Places.{AllBelow, Listing}
-use Rattle.perm_tree.specs.TextOrder.{Mark, mark_names, Marks, AreRising, all_expr_marks, all_stmt_marks, marks_at, block_marks, rhs_marks, stmt_marks, params_marks, method_marks, methods_of, marks_of}
+use Rattle.perm_tree.specs.TextOrder.{Mark, mark_names, Marks, IsRising, all_expr_marks, all_stmt_marks, marks_at, block_marks, rhs_marks, stmt_marks, params_marks, method_marks, methods_marks, methods_of, marks_of}
 use Rattle.perm_tree.specs.TextOrder.Mark.{names}
 use Rattle.perm_tree.specs.declared.ast.ClassDecl.{ClassDecl}
 use Rattle.perm_tree.specs.declared.ast.Expr.{Expr}
@@ -13,14 +12,13 @@ use Rattle.perm_tree.specs.declared.ast.Method.{Method}
 use Rattle.perm_tree.specs.declared.ast.Perm.{Perm}
 use Rattle.perm_tree.specs.declared.ast.Stmt.{Stmt}
 use Rattle.perm_tree.specs.declared.tokens.Token.{Token}
-use Rattle.perm_tree.proofs.Pushes.{all_append}
-use Rattle.perm_tree.proofs.Passing.{rising-less}
+use Rattle.perm_tree.proofs.MethodMarks.{methods-append}
 use Rattle.perm_parse.specs.Grammar.{TypeTree, ArgTree, TargetTree, RhsTree, BlockTree, StmtTree, Stmts, ParamList, Params, MemberTree, Members, Classes, target_text, rhs_text, block_text, stmt_text, stmts_text, type_text, param_list_text, params_text, member_text, members_text, program_text}
 use Rattle.perm_parse.specs.Meaning.{ident, var, span_over, type_of, expr_of, arg_of, target_of, head_last, block_last, rhs_of, block_of, stmt_of, stmts_of, push_stmt, param_list_of, params_of, method_of, member_of, members_of, classes_of, nothing_yet, meaning}
 use Rattle.perm_parse.proofs.Walks.ListGrowth.{front-refl, front-length, Grows, then, push_stmt-grows, ident-grows, type-grows, expr-grows, arg-grows, rhs-grows, block-grows, stmt-grows, stmts-grows, params-grows, member-grows, members-grows, classes-grows}
 use Rattle.perm_parse.proofs.Walks.{ident-kept, members-kept}
 use Rattle.perm_parse.proofs.Walks.UnchangedClasses.{SameClasses, same-classes}
-use Rattle.perm_parse.proofs.WellFormed.ExpressionMarks.{AreInOrder, Told, order-from, nothing, skip, ended, Under, before, entry-pushed, ident-told, var-told, type-told, expr-told, arg-told, call-told}
+use Rattle.perm_parse.proofs.WellFormed.ExpressionMarks.{AreInOrder, Told, nothing, skip, ended, Under, before, entry-pushed, ident-told, var-told, type-told, expr-told, arg-told, call-told}
 
 -- ---- statements
 
@@ -146,14 +144,14 @@ params-told text Params.no_params s u r = r
 params-told text (Params.params list) s u r = param_list-told text list s u r
 
 -- a method ends with the token behind its `return`
-method-told : {n : ℕ} {xs : List Expr} {ys : List Stmt} (text : List ℕ) (ty : TypeTree) (name opening : Token) (list : Params) (closing : Token) (p : Perm) (perm start : Token) (b : Stmts)
-    (word : Token) (a : ArgTree) (end finish : Token) (us : List Token) (s : Listing) →
+method-told : {n : ℕ} {vs : List Token} {xs : List Expr} {ys : List Stmt} {ms : List Mark} (text : List ℕ) (ty : TypeTree) (name opening : Token) (list : Params) (closing : Token) (p : Perm) (perm start : Token)
+    (b : Stmts) (word : Token) (a : ArgTree) (end finish : Token) (us : List Token) (s : Listing) →
     let head = method_of text ty name list s in
     let x = stmts_of text b head.program in
     let y = arg_of text a x.1 in
-    Under n xs ys y.1 → Told n us (member_text (MemberTree.method ty name opening list closing p perm start b word a end finish) us)
-    (method_marks xs ys (record { result = head.result; name = head.name; params = head.params; receiver = p; body = record { stmts = x.0 }; back = y.0; span = span_over word end }))
-method-told text ty name opening list closing p perm start b word a end finish us s u =
+    Under n xs ys y.1 → Told n vs us ms → Told n vs (member_text (MemberTree.method ty name opening list closing p perm start b word a end finish) us)
+    (method_marks xs ys (record { result = head.result; name = head.name; params = head.params; receiver = p; body = record { stmts = x.0 }; back = y.0; span = span_over word end }) ms)
+method-told text ty name opening list closing p perm start b word a end finish us s u r =
     let t = type_of text ty s in
     let i = ident text name t.1 in
     let head = method_of text ty name list s in
@@ -161,106 +159,81 @@ method-told text ty name opening list closing p perm start b word a end finish u
     let k = before (arg-grows text a x.1) u in
     let l = before (stmts-grows text b head.program) k in
     type-told ty (ident-told text name t.1 (before (params-grows text list i.1) l) (skip (params-told text list i.1 l
-    (skip (skip (skip (stmts-told text b head.program k (skip (arg-told text a x.1 u (ended (skip nothing)))))))))))
+    (skip (skip (skip (stmts-told text b head.program k (skip (arg-told text a x.1 u (ended (skip r)))))))))))
 
 -- ---- members
 
--- the lists of marks rise where these tokens are in order, and so are the tokens at their end; the names among them have numbers below this one
-record AreTold (n : ℕ) (vs us : List Token) (mss : List (List Mark)) : Type 0 where
-  rising : (from : ℕ) → AreInOrder from us → AreRising mss
-  behind : (from : ℕ) → AreInOrder from us → AreInOrder 0 vs
-  numbered : AllBelow n (flat_map mark_names mss)
-
-rising-append : (mss kss : List (List Mark)) → AreRising mss → AreRising kss → AreRising (mss ++ kss)
-rising-append [] kss h k = k
-rising-append (ms ∷ mss) kss h k = (h.0, rising-append mss kss h.1 k)
-
-no_methods : {n : ℕ} {us : List Token} → AreTold n us us []
-no_methods {us} = record { rising = λ from h. tt; behind = λ from h. order-from 0 from us (omega arith) h; numbered = tt }
-
--- lists of marks one after the other
-join : {n : ℕ} {vs us ws : List Token} {mss kss : List (List Mark)} → AreTold n us ws mss → AreTold n vs us kss → AreTold n vs ws (mss ++ kss)
-join {n} {mss} {kss} q r = record {
-  rising = λ from h. rising-append mss kss (q.rising from h) (r.rising 0 (q.behind from h));
-  behind = λ from h. r.behind 0 (q.behind from h);
-  numbered = subst (AllBelow n) (sym (flat_map-append mark_names mss kss)) (all_append n (flat_map mark_names mss) (flat_map mark_names kss) q.numbered r.numbered);
-}
-
--- the marks of one method
-one : {n : ℕ} {vs us : List Token} {ms : List Mark} → Told n vs us ms → AreTold n vs us (ms ∷ [])
-one {n} {ms} r = record {
-  rising = λ from h. (rising-less 0 from ms (omega arith) (r.rising from h), tt);
-  behind = r.behind;
-  numbered = subst (AllBelow n) (sym (append-nil (mark_names ms))) r.numbered;
-}
-
--- tokens with no marks
-until : {n : ℕ} {vs us ws : List Token} {mss : List (List Mark)} → AreTold n us ws mss → Told n vs us [] → AreTold n vs ws mss
-until q r = record { rising = q.rising; behind = λ from h. r.behind 0 (q.behind from h); numbered = q.numbered }
-
-member-told : {n : ℕ} {xs : List Expr} {ys : List Stmt} {us ws : List Token} (text : List ℕ) (x : MemberTree) (fs : List FieldDecl) (ds : List Method) (s : Listing) →
-    Under n xs ys (member_of text x fs ds s).2 → AreTold n (member_text x us) ws (map (method_marks xs ys) ds) → AreTold n us ws (map (method_marks xs ys) (member_of text x fs ds s).1)
-member-told text (MemberTree.field_member ty name end) fs ds s u q = until q (type-told ty (skip (skip nothing)))
-member-told {n} {xs} {ys} {us} {ws} text (MemberTree.method ty name opening list closing p perm start b word a end finish) fs ds s u q =
+-- the methods of a member more stand last
+member-told : {n : ℕ} {vs us ws : List Token} {xs : List Expr} {ys : List Stmt} {ms : List Mark} (text : List ℕ) (x : MemberTree) (fs : List FieldDecl) (ds : List Method) (s : Listing) →
+    Under n xs ys (member_of text x fs ds s).2 → Told n vs us ms → ((ks : List Mark) → Told n vs (member_text x us) ks → Told n vs ws (methods_marks xs ys ds ks))
+    → Told n vs ws (methods_marks xs ys (member_of text x fs ds s).1 ms)
+member-told {n} {vs} {us} {ws} {xs} {ys} {ms} text (MemberTree.field_member ty name end) fs ds s u r front = front ms (type-told ty (skip (skip r)))
+member-told {n} {vs} {us} {ws} {xs} {ys} {ms} text (MemberTree.method ty name opening list closing p perm start b word a end finish) fs ds s u r front =
     let head = method_of text ty name list s in
     let x = stmts_of text b head.program in
     let y = arg_of text a x.1 in
     let made : Method = record { result = head.result; name = head.name; params = head.params; receiver = p; body = record { stmts = x.0 }; back = y.0; span = span_over word end } in
     subst
-    (AreTold n us ws)
-    (sym (map-append (method_marks xs ys) ds (made ∷ [])))
-    (join q (one (method-told text ty name opening list closing p perm start b word a end finish us s u)))
+    (Told n vs ws)
+    (sym (methods-append xs ys ds (made ∷ []) ms))
+    (front (method_marks xs ys made ms) (method-told text ty name opening list closing p perm start b word a end finish us s u r))
 
-members-told : {n : ℕ} {xs : List Expr} {ys : List Stmt} (text : List ℕ) (a : Members) (s : Listing) (us : List Token) →
-    Under n xs ys (members_of text a s).2 → AreTold n us (members_text a us) (map (method_marks xs ys) (members_of text a s).1)
-members-told text Members.no_members s us u = no_methods
-members-told text (Members.more_members list x) s us u =
-    let r = members_of text list s in
-    member-told text x r.0 r.1 r.2 u (members-told text list s (member_text x us) (before (member-grows text x r.0 r.1 r.2) u))
+members-told : {n : ℕ} {vs us : List Token} {xs : List Expr} {ys : List Stmt} {ms : List Mark} (text : List ℕ) (a : Members) (s : Listing) →
+    Under n xs ys (members_of text a s).2 → Told n vs us ms → Told n vs (members_text a us) (methods_marks xs ys (members_of text a s).1 ms)
+members-told text Members.no_members s u r = r
+members-told text (Members.more_members list x) s u r =
+    let m = members_of text list s in
+    member-told text x m.0 m.1 m.2 u r (λ ks q. members-told text list s (before (member-grows text x m.0 m.1 m.2) u) q)
 
 -- ---- programs
 
 -- the methods of one class more stand last
-methods-last : (f : Method → List Mark) (cs : List ClassDecl) (c : ClassDecl) → map f (flat_map (λ c. c.methods) cs) ++ map f c.methods ≡ map f (flat_map (λ c. c.methods) (cs ++ c ∷ []))
-methods-last f cs c =
+classes-last : (xs : List Expr) (ys : List Stmt) (cs : List ClassDecl) (c : ClassDecl) (ms : List Mark)
+    → methods_marks xs ys (flat_map (λ c. c.methods) cs) (methods_marks xs ys c.methods ms) ≡ methods_marks xs ys (flat_map (λ c. c.methods) (cs ++ c ∷ [])) ms
+classes-last xs ys cs c ms =
     let of : ClassDecl → List Method = λ c. c.methods in
-    sym (map-append f (flat_map of cs) c.methods)
-    ∙ ap (λ ds. map f (flat_map of cs ++ ds)) (sym (append-nil c.methods))
-    ∙ ap (map f) (sym (flat_map-append of cs (c ∷ [])))
+    sym (methods-append xs ys (flat_map of cs) c.methods ms)
+    ∙ ap (λ ds. methods_marks xs ys (flat_map of cs ++ ds) ms) (sym (append-nil c.methods))
+    ∙ ap (λ ds. methods_marks xs ys ds ms) (sym (flat_map-append of cs (c ∷ [])))
 
-program-told : {n : ℕ} {xs : List Expr} {ys : List Stmt} (text : List ℕ) (a : Classes) (us : List Token) →
-    Under n xs ys (classes_of text a nothing_yet) → AreTold n us (program_text a us) (map (method_marks xs ys) (methods_of (classes_of text a nothing_yet)))
-program-told text Classes.no_classes us u = no_methods
-program-told {n} {xs} {ys} text (Classes.more_classes list word name opening members closing) us u =
-    let r = classes_of text list nothing_yet in
-    let x = ident text name r in
+-- the marks of a class stand behind those of the program before it
+class-told : {n : ℕ} {vs us ws : List Token} {xs : List Expr} {ys : List Stmt} {ms : List Mark} (text : List ℕ) (word name opening : Token) (members : Members) (closing : Token) (s : Listing) →
+    let x = ident text name s in
+    let m = members_of text members x.1 in
+    Under n xs ys m.2 → Told n vs us ms
+    → ((ks : List Mark) → Under n xs ys s → Told n vs (word ∷ name ∷ opening ∷ members_text members (closing ∷ us)) ks → Told n vs ws (methods_marks xs ys (methods_of s) ks))
+    → Told n vs ws (methods_marks xs ys (flat_map (λ d. d.methods) (m.2.classes ++ (record { name = x.0; fields = m.0; methods = m.1 }) ∷ [])) ms)
+class-told {n} {vs} {us} {ws} {xs} {ys} {ms} text word name opening members closing s u r front =
+    let x = ident text name s in
     let m = members_of text members x.1 in
     let c : ClassDecl = record { name = x.0; fields = m.0; methods = m.1 } in
-    let f = method_marks xs ys in
-    let inner = members_text members (closing ∷ us) in
-    let v : Under n xs ys m.2 = record { some = u.some; names = u.names; exprs = u.exprs; stmts = u.stmts } in
-    let w = before (then (ident-grows text name r) (members-grows text members x.1)) v in
-    let kept : m.2.classes ≡ r.classes = members-kept SameClasses same-classes (λ x s. refl) text members x.1 ∙ ident-kept SameClasses same-classes text name r in
-    let first : AreTold n inner (word ∷ name ∷ opening ∷ inner) [] = until no_methods (skip (skip (skip nothing))) in
-    let more : AreTold n us (word ∷ name ∷ opening ∷ inner) (map f m.1) = until (join first (members-told text members x.1 (closing ∷ us) v)) (skip nothing) in
+    let kept : m.2.classes ≡ s.classes = members-kept SameClasses same-classes (λ x s. refl) text members x.1 ∙ ident-kept SameClasses same-classes text name s in
+    let here : Told n vs (members_text members (closing ∷ us)) (methods_marks xs ys m.1 ms) = members-told text members x.1 u (skip r) in
     subst
-    (AreTold n us (program_text list (word ∷ name ∷ opening ∷ inner)))
-    (methods-last f r.classes c ∙ ap (λ (cs : List ClassDecl). map f (flat_map (λ d. d.methods) (cs ++ c ∷ []))) (sym kept))
-    (join (program-told text list (word ∷ name ∷ opening ∷ inner) w) more)
+    (Told n vs ws)
+    (classes-last xs ys s.classes c ms ∙ ap (λ (cs : List ClassDecl). methods_marks xs ys (flat_map (λ d. d.methods) (cs ++ c ∷ [])) ms) (sym kept))
+    (front (methods_marks xs ys m.1 ms) (before (then (ident-grows text name s) (members-grows text members x.1)) u) (skip (skip (skip here))))
+
+program-told : {n : ℕ} {vs us : List Token} {xs : List Expr} {ys : List Stmt} {ms : List Mark} (text : List ℕ) (a : Classes) →
+    Under n xs ys (classes_of text a nothing_yet) → Told n vs us ms → Told n vs (program_text a us) (methods_marks xs ys (methods_of (classes_of text a nothing_yet)) ms)
+program-told text Classes.no_classes u r = r
+program-told text (Classes.more_classes list word name opening members closing) u r =
+    class-told text word name opening members closing (classes_of text list nothing_yet) (record { some = u.some; names = u.names; exprs = u.exprs; stmts = u.stmts }) r (λ ks w q. program-told text list w q)
 
 whole : (text : List ℕ) (tree : Classes) →
     let p = meaning text tree in
-    AreTold (length p.names) [] (program_text tree []) (marks_of p)
+    Told (length p.names) [] (program_text tree []) (marks_of p)
 whole text tree =
     let p = meaning text tree in
     let g = classes-grows text tree nothing_yet in
-    program-told text tree []
+    program-told text tree
     (record { some = omega (arith, front-length nothing_yet.names p.names g.names); names = omega arith; exprs = front-refl p.exprs; stmts = front-refl p.stmts })
+    nothing
 
 -- the program that a tree means is in text order, where its tokens are
-pub meaning-rising : (text : List ℕ) (tokens : List Token) (tree : Classes) → AreInOrder 0 tokens → program_text tree [] ≡ tokens → AreRising (marks_of (meaning text tree))
+pub meaning-rising : (text : List ℕ) (tokens : List Token) (tree : Classes) → AreInOrder 0 tokens → program_text tree [] ≡ tokens → IsRising 0 (marks_of (meaning text tree))
 meaning-rising text tokens tree order spells = (whole text tree).rising 0 (subst (AreInOrder 0) (sym spells) order)
 
 -- each name that stands in its methods has a number among its names
-pub meaning-marked : (text : List ℕ) (tree : Classes) → AllBelow (length (meaning text tree).names) (flat_map mark_names (marks_of (meaning text tree)))
+pub meaning-marked : (text : List ℕ) (tree : Classes) → AllBelow (length (meaning text tree).names) (mark_names (marks_of (meaning text tree)))
 meaning-marked text tree = (whole text tree).numbered

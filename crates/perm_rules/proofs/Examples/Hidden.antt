@@ -58,7 +58,7 @@ apart =
     ∷ class "Main" (run_method (init_recover (ref Isolated "Box") "c" (init (ref Writable "Box") "y" (new "Box") ∷ []) "y" ∷ []) (num 0) ∷ [])
     ∷ []
 
--- the statement of `Look` is told to stand behind the head of the recover block, which ends behind it; all this may be told by hand, since each method alone is in text order
+-- the statement of `Look` is told to stand behind the head of the recover block, which ends behind it; each method alone is in text order, but not one behind the other, as those of a program are
 abbrev moved : Stmt → Stmt
 moved s = record s { span = record { start = cond (nat_eq s.head.end s.span.end) 10000 s.span.start; end = cond (nat_eq s.head.end s.span.end) 10001 20000 } }
 

@@ -19,7 +19,7 @@ use Rattle.perm_rules.specs.declared.ParMode.TheVariants.{Symmetric, LeftAlone}
 use Rattle.perm_rules.specs.AtPlace.{routine_at, flow_of, flows_of, par_mode_of, plain_mode_of, uses_of, sets_of, effect_of, whole_effect_of}
 use Rattle.perm_rules.specs.FirstRefused.{entries}
 use Rattle.perm_rules.specs.Goes.{context, first_live}
-use Rattle.perm_rules.specs.InBody.{body_places}
+use Rattle.perm_tree.specs.InBody.{body_places}
 use Rattle.perm_rules.proofs.Examples.Kinds.{with_lines}
 
 -- the first six variables, each as whether it is in a set

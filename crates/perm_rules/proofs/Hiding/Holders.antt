@@ -1,84 +1,19 @@
 -- What is hidden at a place, by the statement whose block holds it.
-use Rattle.std.proofs.Common.{◌≡◌, ℕ, zero, suc, ◌<◌, ◌≤◌, Bool, true, false, cond, List, [], ◌∷◌, ◌++◌, length, Option, Some, None, refl, sym, ◌∙◌, ap, subst, arith, get_or, inl, inr}
-use Rattle.std.specs.Prelude.{◌⊎◌, nat_eq, slice_get, unwrap_or}
-use Rattle.std.proofs.Math.ListN.{get_or-append}
-use Rattle.std.proofs.lemmas.Bool.{eqb-true, eq-eqb, or_cases, or_left, or_right}
-use Rattle.std.proofs.lemmas.Option.{slice_get_cases, slice_get_past, unwrap_or-slice_get}
+use Rattle.std.proofs.Common.{◌≡◌, ℕ, zero, suc, ◌<◌, ◌≤◌, Bool, true, false, cond, List, [], ◌∷◌, ◌++◌, length, Some, refl, sym, ◌∙◌, ap, subst, arith, get_or, inl, inr}
+use Rattle.std.specs.Prelude.{◌⊎◌, slice_get}
 use Rattle.perm_tree.specs.declared.ast.Stmt.{Stmt}
 use Rattle.perm_tree.specs.declared.unit.VarInfo.{VarInfo}
 use Rattle.perm_tree.specs.Places.{AllBelow}
 use Rattle.perm_tree.specs.Vars.{those}
 use Rattle.perm_tree.proofs.ClassMaps.{same_bool}
-use Rattle.perm_tree.proofs.Entries.{entries_of-at, length-entries_of}
-use Rattle.perm_rules.specs.InBody.{inner_places, places_with, all_within}
+use Rattle.perm_tree.proofs.HeldStatements.{listed-below, opened, reaches, within-at, within-length, earlier, Opened}
+use Rattle.perm_tree.specs.InBody.{inner_places, all_within}
 use Rattle.perm_rules.specs.AtPlace.{hides_of, hidden_by}
-use Rattle.perm_rules.proofs.Hiding.StandOnce.{those-parts, those-left, those-right}
 
 not-true : (b : Bool) → (b ≡ true → ⊥) → b ≡ false
 not-true true f = absurd (f refl)
 not-true false f = refl
 
--- an element whose place is in range is there
-pub element-there : {X : Type 0} (xs : List X) (i : ℕ) → i < length xs → (x : X) × (slice_get xs i ≡ Some x)
-element-there {X} xs i less = pick (slice_get_cases xs i).1
-  where
-    pick : ((x : X) × (i < length xs) × (slice_get xs i ≡ Some x) × (get_or xs i x ≡ x)) ⊎ ((length xs ≤ i) × (slice_get xs i ≡ None)) → (x : X) × (slice_get xs i ≡ Some x)
-    pick (inl (x, small, here, is)) = (x, here)
-    pick (inr both) = let past : length xs ≤ i = both.0 in absurd (omega arith)
-
-listed-below : (n : ℕ) (is : List ℕ) (i : ℕ) → AllBelow n is → those is i ≡ true → i < n
-listed-below n [] i all e = absurd (let no : ⊥ = cc e in no)
-listed-below n (j ∷ is) i all e = pick (or_cases (nat_eq i j) (those is i) e) (λ q. listed-below n is i all.1 q)
-  where
-    pick : (nat_eq i j ≡ true) ⊎ (those is i ≡ true) → (those is i ≡ true → i < n) → i < n
-    pick (inl q) later = subst (λ x. x < n) (sym (eqb-true i j q)) all.0
-    pick (inr q) later = later q
-
--- what stands behind doesn't change the places within statements that stand before
-places-front : (before after : List (List ℕ)) (is : List ℕ) → AllBelow (length before) is → places_with (before ++ after) is ≡ places_with before is
-places-front before after [] all = refl
-places-front before after (i ∷ is) all =
-    ap (λ xs. i ∷ (xs ++ places_with (before ++ after) is)) (get_or-append before after [] i all.0) ∙ ap (λ xs. i ∷ (get_or before i [] ++ xs)) (places-front before after is all.1)
-
--- a place among some statements and those within them is that of one of them, or is within it
-pub record Reached (inner : List (List ℕ)) (is : List ℕ) (i : ℕ) : Type 0 where
-  pub at : ℕ
-  pub listed : those is at ≡ true
-  pub either : (i ≡ at) ⊎ (those (get_or inner at []) i ≡ true)
-
-reached : (inner : List (List ℕ)) (is : List ℕ) (i : ℕ) → those (places_with inner is) i ≡ true → Reached inner is i
-reached inner [] i e = absurd (let no : ⊥ = cc e in no)
-reached inner (j ∷ is) i e = first (or_cases (nat_eq i j) (those (get_or inner j [] ++ places_with inner is) i) e) (λ q. reached inner is i q)
-  where
-    here : those (j ∷ is) j ≡ true
-    here = or_left (nat_eq j j) (those is j) (eq-eqb j j refl)
-
-    later : Reached inner is i → Reached inner (j ∷ is) i
-    later r = record { at = r.at; listed = or_right (nat_eq r.at j) (those is r.at) r.listed; either = r.either }
-
-    second : (those (get_or inner j []) i ≡ true) ⊎ (those (places_with inner is) i ≡ true) → (those (places_with inner is) i ≡ true → Reached inner is i) → Reached inner (j ∷ is) i
-    second (inl q) more = record { at = j; listed = here; either = inr q }
-    second (inr q) more = later (more q)
-
-    first : (nat_eq i j ≡ true) ⊎ (those (get_or inner j [] ++ places_with inner is) i ≡ true) → (those (places_with inner is) i ≡ true → Reached inner is i) → Reached inner (j ∷ is) i
-    first (inl q) more = record { at = j; listed = here; either = inl (eqb-true i j q) }
-    first (inr q) more = second (those-parts (get_or inner j []) (places_with inner is) i q) more
-
-reaches : (inner : List (List ℕ)) (is : List ℕ) (i at : ℕ) → those is at ≡ true → (i ≡ at) ⊎ (those (get_or inner at []) i ≡ true) → those (places_with inner is) i ≡ true
-reaches inner [] i at e either = absurd (let no : ⊥ = cc e in no)
-reaches inner (j ∷ is) i at e either = pick (or_cases (nat_eq at j) (those is at) e) (λ q. reaches inner is i at q either)
-  where
-    here : at ≡ j → (i ≡ at) ⊎ (those (get_or inner at []) i ≡ true) → those (places_with inner (j ∷ is)) i ≡ true
-    here same (inl q) = or_left (nat_eq i j) (those (get_or inner j [] ++ places_with inner is) i) (eq-eqb i j (q ∙ same))
-    here same (inr q) =
-        or_right (nat_eq i j) (those (get_or inner j [] ++ places_with inner is) i)
-        (those-left (get_or inner j []) (places_with inner is) i (subst (λ n. those (get_or inner n []) i ≡ true) same q))
-
-    pick : (nat_eq at j ≡ true) ⊎ (those is at ≡ true) → (those is at ≡ true → those (places_with inner is) i ≡ true) → those (places_with inner (j ∷ is)) i ≡ true
-    pick (inl q) later = here (eqb-true at j q) either
-    pick (inr q) later = or_right (nat_eq i j) (those (get_or inner j [] ++ places_with inner is) i) (those-right (get_or inner j []) (places_with inner is) i (later q))
-
--- ---------- what lists of statements hide ----------
 module _ (vars : List VarInfo) where
   same-hidden : (ws : List (List ℕ)) (ss : List Stmt) (i j : ℕ) → ((n : ℕ) → those (get_or ws n []) i ≡ those (get_or ws n []) j) → hidden_by vars i ws ss ≡ hidden_by vars j ws ss
   same-hidden [] ss i j all = refl
@@ -120,52 +55,6 @@ module _ (stmts : List Stmt) (placed : (j : ℕ) (s : Stmt) → slice_get stmts 
   abbrev within : List (List ℕ)
   within = all_within stmts
 
-  pub within-length : length within ≡ length stmts
-  within-length = length-entries_of (λ inner s. places_with inner (inner_places s)) stmts
-
-  pub within-at : (j : ℕ) (s : Stmt) → slice_get stmts j ≡ Some s → get_or within j [] ≡ places_with within (inner_places s)
-  within-at j s here =
-      entries_of-at (λ inner s. places_with inner (inner_places s)) stmts j s [] here
-      (λ before after count. places-front before after (inner_places s) (subst (λ n. AllBelow n (inner_places s)) (sym count) (placed j s here)))
-
-  -- the statement that holds a place, or holds what holds it
-  pub record Opened (j i : ℕ) : Type 0 where
-    pub stmt : Stmt
-    pub here : slice_get stmts j ≡ Some stmt
-    pub inside : Reached within (inner_places stmt) i
-
-  pub opened : (j i : ℕ) → those (get_or within j []) i ≡ true → Opened j i
-  opened j i e = by-option (slice_get stmts j) refl
-    where
-      past : slice_get stmts j ≡ None → length stmts ≤ j
-      past none = pick (slice_get_cases stmts j).1
-        where
-          pick : ((x : Stmt) × (j < length stmts) × (slice_get stmts j ≡ Some x) × (get_or stmts j x ≡ x)) ⊎ ((length stmts ≤ j) × (slice_get stmts j ≡ None)) → length stmts ≤ j
-          pick (inl (x, less, here, is)) = absurd (let no : ⊥ = cc (none, here) in no)
-          pick (inr both) = both.0
-
-      nothing : slice_get stmts j ≡ None → get_or within j [] ≡ []
-      nothing none = let behind : length stmts ≤ j = past none in sym (unwrap_or-slice_get within j []) ∙ ap (λ o. unwrap_or o []) (slice_get_past within j (omega (arith, within-length)))
-
-      by-option : (o : Option Stmt) → slice_get stmts j ≡ o → Opened j i
-      by-option None q = absurd (let no : ⊥ = cc (subst (λ xs. those xs i ≡ true) (nothing q) e) in no)
-      by-option (Some s) q = record { stmt = s; here = q; inside = reached within (inner_places s) i (subst (λ xs. those xs i ≡ true) (within-at j s q) e) }
-
-  -- what is within a statement stands before it
-  earlier : (n j i : ℕ) → j < n → those (get_or within j []) i ≡ true → i < j
-  earlier zero j i less e = absurd (omega arith)
-  earlier (suc n) j i less e = go (opened j i e) (λ k small q. earlier n k i small q)
-    where
-      go : Opened j i → ((k : ℕ) → k < n → those (get_or within k []) i ≡ true → i < k) → i < j
-      go o later = pick o.inside.either
-        where
-          before : o.inside.at < j
-          before = listed-below j (inner_places o.stmt) o.inside.at (placed j o.stmt o.here) o.inside.listed
-
-          pick : (i ≡ o.inside.at) ⊎ (those (get_or within o.inside.at []) i ≡ true) → i < j
-          pick (inl q) = subst (λ x. x < j) (sym q) before
-          pick (inr q) = let deep : i < o.inside.at = later o.inside.at (omega (arith, before)) q in omega (arith, before)
-
   -- a statement stands in the block of some statement, if it is within one
   pub record HolderOf (i : ℕ) : Type 0 where
     pub place : ℕ
@@ -175,9 +64,9 @@ module _ (stmts : List Stmt) (placed : (j : ℕ) (s : Stmt) → slice_get stmts 
 
   held : (n j i : ℕ) → j < n → those (get_or within j []) i ≡ true → HolderOf i
   held zero j i less e = absurd (omega arith)
-  held (suc n) j i less e = go (opened j i e) (λ k small q. held n k i small q)
+  held (suc n) j i less e = go (opened stmts placed j i e) (λ k small q. held n k i small q)
     where
-      go : Opened j i → ((k : ℕ) → k < n → those (get_or within k []) i ≡ true → HolderOf i) → HolderOf i
+      go : Opened stmts placed j i → ((k : ℕ) → k < n → those (get_or within k []) i ≡ true → HolderOf i) → HolderOf i
       go o later = pick o.inside.either
         where
           before : o.inside.at < j
@@ -191,16 +80,16 @@ module _ (stmts : List Stmt) (placed : (j : ℕ) (s : Stmt) → slice_get stmts 
     -- what is round a statement is the one whose block holds it, or is round that
     climb : (n k : ℕ) → k < n → those (get_or within k []) i ≡ true → (k ≡ j) ⊎ (those (get_or within k []) j ≡ true)
     climb zero k less e = absurd (omega arith)
-    climb (suc n) k less e = go (opened k i e) (λ at small q. climb n at small q)
+    climb (suc n) k less e = go (opened stmts placed k i e) (λ at small q. climb n at small q)
       where
-        go : Opened k i → ((at : ℕ) → at < n → those (get_or within at []) i ≡ true → (at ≡ j) ⊎ (those (get_or within at []) j ≡ true)) → (k ≡ j) ⊎ (those (get_or within k []) j ≡ true)
+        go : Opened stmts placed k i → ((at : ℕ) → at < n → those (get_or within at []) i ≡ true → (at ≡ j) ⊎ (those (get_or within at []) j ≡ true)) → (k ≡ j) ⊎ (those (get_or within k []) j ≡ true)
         go o later = pick o.inside.either
           where
             before : o.inside.at < k
             before = listed-below k (inner_places o.stmt) o.inside.at (placed k o.stmt o.here) o.inside.listed
 
             wrap : (j ≡ o.inside.at) ⊎ (those (get_or within o.inside.at []) j ≡ true) → those (get_or within k []) j ≡ true
-            wrap either = subst (λ xs. those xs j ≡ true) (sym (within-at k o.stmt o.here)) (reaches within (inner_places o.stmt) j o.inside.at o.inside.listed either)
+            wrap either = subst (λ xs. those xs j ≡ true) (sym (within-at stmts placed k o.stmt o.here)) (reaches within (inner_places o.stmt) j o.inside.at o.inside.listed either)
 
             up : (o.inside.at ≡ j) ⊎ (those (get_or within o.inside.at []) j ≡ true) → (k ≡ j) ⊎ (those (get_or within k []) j ≡ true)
             up (inl q) = inr (wrap (inl (sym q)))
@@ -210,33 +99,33 @@ module _ (stmts : List Stmt) (placed : (j : ℕ) (s : Stmt) → slice_get stmts 
             pick (inl q) = inl (one k j o.stmt s i o.here there (subst (λ x. those (inner_places o.stmt) x ≡ true) (sym q) o.inside.listed) inside)
             pick (inr q) = up (later o.inside.at (omega (arith, before)) q)
 
-    own-within : those (get_or within j []) i ≡ true
-    own-within = subst (λ xs. those xs i ≡ true) (sym (within-at j s there)) (reaches within (inner_places s) i i inside (inl refl))
+    pub own-within : those (get_or within j []) i ≡ true
+    own-within = subst (λ xs. those xs i ≡ true) (sym (within-at stmts placed j s there)) (reaches within (inner_places s) i i inside (inl refl))
 
     -- what is round the one whose block holds it is round it
-    sink : (n k : ℕ) → k < n → those (get_or within k []) j ≡ true → those (get_or within k []) i ≡ true
+    pub sink : (n k : ℕ) → k < n → those (get_or within k []) j ≡ true → those (get_or within k []) i ≡ true
     sink zero k less e = absurd (omega arith)
-    sink (suc n) k less e = go (opened k j e) (λ at small q. sink n at small q)
+    sink (suc n) k less e = go (opened stmts placed k j e) (λ at small q. sink n at small q)
       where
-        go : Opened k j → ((at : ℕ) → at < n → those (get_or within at []) j ≡ true → those (get_or within at []) i ≡ true) → those (get_or within k []) i ≡ true
+        go : Opened stmts placed k j → ((at : ℕ) → at < n → those (get_or within at []) j ≡ true → those (get_or within at []) i ≡ true) → those (get_or within k []) i ≡ true
         go o later = pick o.inside.either
           where
             before : o.inside.at < k
             before = listed-below k (inner_places o.stmt) o.inside.at (placed k o.stmt o.here) o.inside.listed
 
             wrap : those (get_or within o.inside.at []) i ≡ true → those (get_or within k []) i ≡ true
-            wrap q = subst (λ xs. those xs i ≡ true) (sym (within-at k o.stmt o.here)) (reaches within (inner_places o.stmt) i o.inside.at o.inside.listed (inr q))
+            wrap q = subst (λ xs. those xs i ≡ true) (sym (within-at stmts placed k o.stmt o.here)) (reaches within (inner_places o.stmt) i o.inside.at o.inside.listed (inr q))
 
             pick : (j ≡ o.inside.at) ⊎ (those (get_or within o.inside.at []) j ≡ true) → those (get_or within k []) i ≡ true
             pick (inl q) = wrap (subst (λ x. those (get_or within x []) i ≡ true) q own-within)
             pick (inr q) = wrap (later o.inside.at (omega (arith, before)) q)
 
     not-behind : (k : ℕ) → k ≤ j → those (get_or within k []) j ≡ false
-    not-behind k least = not-true (those (get_or within k []) j) (λ e. let less : j < k = earlier (suc k) k j (omega arith) e in omega arith)
+    not-behind k least = not-true (those (get_or within k []) j) (λ e. let less : j < k = earlier stmts placed (suc k) k j (omega arith) e in omega arith)
 
     -- at a statement is hidden what the one hides whose block holds it, and what is hidden there
     pub hidden-by-holder : (vars : List VarInfo) → hidden_by vars i within stmts ≡ hides_of vars s s.kind ++ hidden_by vars j within stmts
-    hidden-by-holder vars = one-more vars within stmts j s i j within-length there (record {
+    hidden-by-holder vars = one-more vars within stmts j s i j (within-length stmts placed) there (record {
       before = λ n less. (not-true (those (get_or within n []) i) (λ e. front n less (climb (suc n) n (omega arith) e)), not-behind n (omega arith));
       inside = own-within;
       outside = not-behind j (omega arith);
@@ -245,7 +134,7 @@ module _ (stmts : List Stmt) (placed : (j : ℕ) (s : Stmt) → slice_get stmts 
       where
         front : (n : ℕ) → n < j → (n ≡ j) ⊎ (those (get_or within n []) j ≡ true) → ⊥
         front n less (inl q) = omega arith
-        front n less (inr q) = let after : j < n = earlier (suc n) n j (omega arith) q in omega arith
+        front n less (inr q) = let after : j < n = earlier stmts placed (suc n) n j (omega arith) q in omega arith
 
         back : (n : ℕ) → j < n → (n ≡ j) ⊎ (those (get_or within n []) j ≡ true) → those (get_or within n []) j ≡ true
         back n less (inl q) = absurd (omega arith)

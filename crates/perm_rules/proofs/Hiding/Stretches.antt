@@ -1,5 +1,5 @@
 -- Among the entries of a block stand those of each statement in it and within it, checked with what is hidden at its place.
-use Rattle.std.proofs.Common.{◌≡◌, ℕ, zero, suc, ◌<◌, ◌≤◌, true, false, List, [], ◌∷◌, ◌++◌, length, Option, Some, None, refl, sym, ◌∙◌, ap, subst, arith, get_or, inl, inr, append_assoc, append-nil, le_refl}
+use Rattle.std.proofs.Common.{◌≡◌, ℕ, zero, suc, ◌<◌, ◌≤◌, true, false, List, [], ◌∷◌, ◌++◌, length, Some, None, refl, sym, ◌∙◌, ap, subst, arith, get_or, inl, inr, append_assoc, append-nil, le_refl}
 use Rattle.std.specs.Prelude.{◌⊎◌, nat_eq, slice_get}
 use Rattle.std.proofs.lemmas.Bool.{eqb-true, eq-eqb, or_cases, or_left}
 use Rattle.perm_tree.specs.declared.ast.Block.{Block}
@@ -9,25 +9,27 @@ use Rattle.perm_tree.specs.declared.ast.Span.{Span}
 use Rattle.perm_tree.specs.declared.ast.Stmt.{Stmt}
 use Rattle.perm_tree.specs.declared.ast.StmtKind.{StmtKind}
 use Rattle.perm_tree.specs.declared.ast.StmtKind.TheVariants.{Declare as DeclareStmt, Assign as AssignStmt, SetField, SetItem, Call as CallStmt, Print as PrintStmt, If as IfStmt, While as WhileStmt, Par as ParStmt}
-use Rattle.perm_tree.specs.Blocks.{rhs_blocks, else_blocks, kind_blocks, block_places}
+use Rattle.perm_tree.specs.Blocks.{rhs_blocks, kind_blocks, block_places}
 use Rattle.perm_tree.specs.Code.{Term, Instruction, Declare, Assign, LoadItem, TakeField, NewObject, NewArray, StoreField, StoreItem, Print, Code, End, Give, Do, If, While, Par, Recover}
-use Rattle.perm_tree.specs.CodeOf.{Setting, term_at, var_at, field_at, argument, call, read, own_vars, tied_before, sequence, assignment, kind_code, codes_of, stmt_code, block_code}
+use Rattle.perm_tree.specs.CodeNames.{Setting, term_at, var_at, field_at, argument, call, read, own_vars, tied_before}
+use Rattle.perm_tree.specs.CodeOf.{sequence, assignment, kind_code, codes_of, stmt_code, block_code}
 use Rattle.perm_tree.specs.Lookup.{class_place}
-use Rattle.perm_tree.specs.Places.{AllBelow, ElseBelow, RhsPlaced, KindPlaced, IsPlaced}
+use Rattle.perm_tree.specs.Places.{AllBelow, RhsPlaced, KindPlaced, IsPlaced}
 use Rattle.perm_tree.specs.Scopes.{else_stmts}
 use Rattle.perm_tree.specs.Vars.{Vars, those, minus}
 use Rattle.perm_tree.proofs.CodeLaws.{stmt_code-is}
+use Rattle.perm_tree.proofs.HeldStatements.{element-there, else-below, else-places, inner-below, opened, places-parts, within-at}
+use Rattle.perm_tree.proofs.StandOnce.{those-left, those-right, those-parts}
 use Rattle.perm_rules.specs.AtPlace.{rhs_hides, hides_of, hidden_by}
 use Rattle.perm_rules.specs.Effects.{Effect, changed, no_effect, instruction_effect, then, effect, block_effect, either, both, repeated}
 use Rattle.perm_rules.specs.FirstRefused.{Entry, entry, entries}
 use Rattle.perm_rules.specs.Goes.{hiding}
-use Rattle.perm_rules.specs.InBody.{inner_places, places_with, all_within}
+use Rattle.perm_tree.specs.InBody.{inner_places, places_with, all_within}
 use Rattle.perm_rules.specs.Laws.{HasStretch}
 use Rattle.perm_rules.specs.Pars.{par_head}
 use Rattle.perm_rules.specs.Parts.{Context, Condition, RecoverHead}
 use Rattle.perm_rules.proofs.SetLaws.{then-changed, lost-changed, empty-changed}
-use Rattle.perm_rules.proofs.Hiding.StandOnce.{those-left, those-right, those-parts}
-use Rattle.perm_rules.proofs.Hiding.Holders.{element-there, opened, within-at, hidden-by-holder}
+use Rattle.perm_rules.proofs.Hiding.Holders.{hidden-by-holder}
 
 -- ---------- stretches ----------
 stretch-front : {c : Context} {a : Code} (xs ys : List Entry) → HasStretch c a xs → HasStretch c a (xs ++ ys)
@@ -45,53 +47,6 @@ stretch-behind {c} {a} xs ys is = record {
   behind = is.behind;
   split = ap (λ zs. xs ++ zs) is.split ∙ sym (append_assoc xs is.before (entries c a is.live ++ is.behind));
 }
-
--- ---------- places ----------
-below-append : (n : ℕ) (is js : List ℕ) → AllBelow n is → AllBelow n js → AllBelow n (is ++ js)
-below-append n [] js f g = g
-below-append n (i ∷ is) js f g = (f.0, below-append n is js f.1 g)
-
-one-below : (n : ℕ) (b : Block) → AllBelow n b.stmts → AllBelow n (block_places (b ∷ []))
-one-below n b f = below-append n b.stmts [] f tt
-
-pub else-below : (n : ℕ) (b : Option Block) → ElseBelow n b → AllBelow n (else_stmts b)
-else-below n None f = tt
-else-below n (Some b) f = f
-
-pub else-places : (b : Option Block) → block_places (else_blocks b) ≡ else_stmts b
-else-places None = refl
-else-places (Some b) = append-nil b.stmts
-
-rhs-below : (exprs n : ℕ) (r : Rhs) → RhsPlaced exprs n r → AllBelow n (block_places (rhs_blocks r))
-rhs-below exprs n (Value a) f = tt
-rhs-below exprs n (Field y x) f = tt
-rhs-below exprs n (TakeRhs y x) f = tt
-rhs-below exprs n (Item y e) f = tt
-rhs-below exprs n (New x) f = tt
-rhs-below exprs n (NewArrayRhs e) f = tt
-rhs-below exprs n (CallRhs m) f = tt
-rhs-below exprs n (RecoverRhs b w give) f = one-below n b f
-
--- the statements of a statement's blocks stand before it
-pub inner-below : (exprs n : ℕ) (kind : StmtKind) → KindPlaced exprs n kind → AllBelow n (block_places (kind_blocks kind))
-inner-below exprs n (DeclareStmt t x) f = tt
-inner-below exprs n (AssignStmt t x r) f = rhs-below exprs n r f
-inner-below exprs n (SetField y x a) f = tt
-inner-below exprs n (SetItem y i e) f = tt
-inner-below exprs n (CallStmt m) f = tt
-inner-below exprs n (PrintStmt e) f = tt
-inner-below exprs n (IfStmt e a b) f = below-append n a.stmts (block_places (else_blocks b)) f.1 (subst (AllBelow n) (sym (else-places b)) (else-below n b f.2))
-inner-below exprs n (WhileStmt e a) f = one-below n a f.1
-inner-below exprs n (ParStmt a b) f = below-append n a.stmts (block_places (b ∷ [])) f.0 (one-below n b f.1)
-
-places-append : (inner : List (List ℕ)) (is js : List ℕ) → places_with inner (is ++ js) ≡ places_with inner is ++ places_with inner js
-places-append inner [] js = refl
-places-append inner (i ∷ is) js =
-    ap (λ xs. i ∷ (get_or inner i [] ++ xs)) (places-append inner is js) ∙ ap (λ xs. i ∷ xs) (sym (append_assoc (get_or inner i []) (places_with inner is) (places_with inner js)))
-
--- a place in or within two lists of statements is in or within the one or the other
-pub places-parts : (inner : List (List ℕ)) (is js : List ℕ) (at : ℕ) → those (places_with inner (is ++ js)) at ≡ true → (those (places_with inner is) at ≡ true) ⊎ (those (places_with inner js) at ≡ true)
-places-parts inner is js at e = those-parts (places_with inner is) (places_with inner js) at (subst (λ xs. those xs at ≡ true) (places-append inner is js) e)
 
 -- ---------- one statement before others ----------
 -- the entries of a code before a rest are its own, and then those of the rest, which is entered with what the code leaves
@@ -300,7 +255,7 @@ module _ (k : Setting) (top : Context) (placed : IsPlaced k.tables.program)
   stmts-hold : (n : ℕ) → n ≤ length stmts → (j : ℕ) → j < n → StmtHolds j
   stmts-hold zero room j less at H G e own = absurd (omega arith)
   stmts-hold (suc n) room j less at H G e own =
-      let o = opened stmts inner one j at e in
+      let o = opened stmts inner j at e in
       go o.stmt o.here (block-holds j at (omega arith) (λ i small. stmts-hold n (omega arith) i (omega arith)))
     where
       go : (s : Stmt) → slice_get stmts j ≡ Some s → BlockHolds j at → StandsIn at (entries (hiding H top) (stmt_code k j End) G)
@@ -310,7 +265,7 @@ module _ (k : Setting) (top : Context) (placed : IsPlaced k.tables.program)
           (sym (stmt_code-is k j s End placed here))
           (kind-holds j at s H G blocks (length k.tables.program.exprs) s.kind (placed.stmts j s here)
           (λ i f. hidden-by-holder stmts inner one j s i here f k.vars ∙ ap (λ hs. hides_of k.vars s s.kind ++ hs) own)
-          (subst (λ xs. those xs at ≡ true) (within-at stmts inner one j s here) e))
+          (subst (λ xs. those xs at ≡ true) (within-at stmts inner j s here) e))
 
   -- among the entries of a body, at whose statements nothing is hidden, stand those of each statement in it and within it
   pub body-holds : (is : List ℕ) (last : Code) (G : Vars) (at : ℕ) → AllBelow (length stmts) is → ((i : ℕ) → those is i ≡ true → hidden i ≡ []) → those (places_with within is) at ≡ true

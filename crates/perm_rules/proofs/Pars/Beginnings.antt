@@ -7,7 +7,7 @@ use Rattle.perm_tree.specs.declared.ast.FieldDecl.{FieldDecl}
 use Rattle.perm_tree.specs.declared.ast.Ident.{Ident}
 use Rattle.perm_tree.specs.declared.ast.Ty.{Ty}
 use Rattle.perm_tree.specs.declared.unit.VarInfo.{VarInfo}
-use Rattle.perm_tree.specs.CodeOf.{is_tied, listed_if, tied_before}
+use Rattle.perm_tree.specs.CodeNames.{is_tied, listed_if, tied_before}
 use Rattle.perm_tree.specs.Lookup.{is_known_as, var_place}
 use Rattle.perm_tree.specs.Scopes.{known_until}
 use Rattle.perm_tree.specs.Vars.{Vars, those, plus, minus, meet, some_below}

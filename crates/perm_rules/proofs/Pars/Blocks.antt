@@ -9,7 +9,8 @@ use Rattle.perm_tree.specs.declared.ast.FieldDecl.{FieldDecl}
 use Rattle.perm_tree.specs.declared.ast.Stmt.{Stmt}
 use Rattle.perm_tree.specs.declared.unit.VarInfo.{VarInfo}
 use Rattle.perm_tree.specs.Code.{Code, End}
-use Rattle.perm_tree.specs.CodeOf.{var_at, own_vars, sequence}
+use Rattle.perm_tree.specs.CodeNames.{var_at, own_vars}
+use Rattle.perm_tree.specs.CodeOf.{sequence}
 use Rattle.perm_tree.specs.Mentions.{mentioned, block_mentions}
 use Rattle.perm_tree.specs.Places.{AllBelow, ElseBelow}
 use Rattle.perm_tree.specs.Scopes.{declared_by, declared_if, known_until, end_if, block_end, block_vars, braced_vars, else_stmts}

@@ -9,7 +9,8 @@ use Rattle.perm_tree.specs.declared.ast.StmtKind.{StmtKind}
 use Rattle.perm_tree.specs.declared.ast.StmtKind.TheVariants.{Declare as DeclareStmt, Assign as AssignStmt, SetField, SetItem, Call as CallStmt, Print as PrintStmt, If as IfStmt, While as WhileStmt, Par as ParStmt}
 use Rattle.perm_tree.specs.declared.unit.VarInfo.{VarInfo}
 use Rattle.perm_tree.specs.Code.{Instruction, Declare, StoreField, StoreItem, Print, Code, End, Do}
-use Rattle.perm_tree.specs.CodeOf.{term_at, var_at, field_at, argument, call, own_vars, sequence, assignment, kind_code}
+use Rattle.perm_tree.specs.CodeNames.{term_at, var_at, field_at, argument, call, own_vars}
+use Rattle.perm_tree.specs.CodeOf.{sequence, assignment, kind_code}
 use Rattle.perm_tree.specs.Mentions.{term_mentions, argument_mentions, mentions, consumes, assigns, mentioned, block_mentions}
 use Rattle.perm_tree.specs.Places.{KindPlaced}
 use Rattle.perm_tree.specs.Scopes.{declared_by, known_until, braced_vars, else_stmts, rhs_vars, inner_vars}

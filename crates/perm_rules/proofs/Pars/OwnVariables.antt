@@ -3,7 +3,7 @@ use Rattle.std.proofs.Common.{◌≡◌, ℕ, ◌<◌, ◌≤◌, true, false, L
 use Rattle.std.specs.Prelude.{◌⊎◌, nat_eq, map, slice_get}
 use Rattle.std.proofs.lemmas.Bool.{eqb-true, or_cases, or_left, or_right}
 use Rattle.perm_tree.specs.declared.ast.FieldDecl.{FieldDecl}
-use Rattle.perm_tree.specs.CodeOf.{Setting, var_at}
+use Rattle.perm_tree.specs.CodeNames.{Setting, var_at}
 use Rattle.perm_tree.specs.Scopes.{known_until}
 use Rattle.perm_tree.specs.TextOrder.{Marks}
 use Rattle.perm_tree.specs.Vars.{those}

@@ -8,7 +8,8 @@ use Rattle.perm_tree.specs.declared.ast.Rhs.TheVariants.{Value, Field, TakeField
 use Rattle.perm_tree.specs.declared.ast.Stmt.{Stmt}
 use Rattle.perm_tree.specs.declared.unit.VarInfo.{VarInfo}
 use Rattle.perm_tree.specs.Code.{Instruction, Assign as SetVar, LoadField, LoadLength, LoadItem, TakeField, NewObject, NewArray, Code, Give, Do}
-use Rattle.perm_tree.specs.CodeOf.{term_at, var_at, ty_at, field_at, argument, call, own_vars, tied_before, sequence, assignment}
+use Rattle.perm_tree.specs.CodeNames.{term_at, var_at, ty_at, field_at, argument, call, own_vars, tied_before}
+use Rattle.perm_tree.specs.CodeOf.{sequence, assignment}
 use Rattle.perm_tree.specs.Lookup.{class_place, is_array}
 use Rattle.perm_tree.specs.Mentions.{term_mentions, argument_mentions, mentions, consumes, assigns, mentioned, block_mentions}
 use Rattle.perm_tree.specs.Places.{RhsPlaced}

@@ -11,7 +11,7 @@ use Rattle.perm_tree.specs.declared.ast.Expr.TheVariants.{Number, Bool as Truth,
 use Rattle.perm_tree.specs.declared.ast.Ident.{Ident}
 use Rattle.perm_tree.specs.declared.unit.VarInfo.{VarInfo}
 use Rattle.perm_tree.specs.Code.{Term, NullLit, Argument}
-use Rattle.perm_tree.specs.CodeOf.{Setting, term_of, term_at, var_at, argument}
+use Rattle.perm_tree.specs.CodeNames.{Setting, term_of, term_at, var_at, argument}
 use Rattle.perm_tree.specs.Entries.{entries_from}
 use Rattle.perm_tree.specs.Lookup.{var_place}
 use Rattle.perm_tree.specs.Mentions.{any_in_argument, term_mentions, argument_mentions}

@@ -7,7 +7,7 @@ use Rattle.perm_tree.specs.declared.ast.FieldDecl.{FieldDecl}
 use Rattle.perm_tree.specs.declared.ast.Stmt.{Stmt}
 use Rattle.perm_tree.specs.declared.unit.VarInfo.{VarInfo}
 use Rattle.perm_tree.specs.Code.{Instruction, Code, Do}
-use Rattle.perm_tree.specs.CodeOf.{var_at}
+use Rattle.perm_tree.specs.CodeNames.{var_at}
 use Rattle.perm_tree.specs.Mentions.{mentions, consumes, assigns, mentioned, block_mentions}
 use Rattle.perm_tree.specs.Scopes.{declared_by, known_until}
 use Rattle.perm_tree.specs.TextOrder.{Mark, ends, IsRising, Marks}

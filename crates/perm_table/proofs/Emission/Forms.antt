@@ -22,6 +22,7 @@ use Rattle.perm_table.proofs.Emission.Paths.{path-none, path-then, path-as, path
 pub record HasSteps (old new : Bodies) (steps : List Step) : Type 0 where
   pub extends : Extends old new
   pub steps_are : new.steps ≡ steps
+  pub places : new.places ≡ old.places
   pub entries : new.entries ≡ old.entries
 
 -- bodies in which the steps alone are others
@@ -29,6 +30,7 @@ pub with-steps : (old new : Bodies) (steps : List Step) → new ≡ record old {
 with-steps old new steps is = subst (λ (b : Bodies). HasSteps old b steps) (sym is) (record {
   extends = record { operations = HasMore-refl old.operations; arguments = HasMore-refl old.arguments; sides = HasMore-refl old.sides };
   steps_are = refl;
+  places = refl;
   entries = refl;
 })
 
@@ -37,6 +39,7 @@ pub with-sides : (old new : Bodies) (sides : Sides) (steps : List Step) → new 
 with-sides old new sides steps is = subst (λ (b : Bodies). HasSteps old b steps) (sym is) (record {
   extends = record { operations = HasMore-refl old.operations; arguments = HasMore-refl old.arguments; sides = (sides ∷ [], refl) };
   steps_are = refl;
+  places = refl;
   entries = refl;
 })
 
@@ -107,6 +110,21 @@ module _ (u : UnitCode) where
     entries = e.entries;
     there = e.there;
     path = λ m rest st. subst (λ (c : Code). IsPath u new (length old.steps) e.added (λ spot all. StandsAt spot all next (spot_of m rest st)) (λ spot all. StandsAt spot all first (spot_of m c st))) (same rest) (e.path m rest st);
+  }
+
+  -- the places of statements are no part of it
+  pub emits-places : (old new : Bodies) (next first : ℕ) (f : Code → Code) (places : List ℕ) → Emits u old next new first f → Emits u old next (record new { places = places }) first f
+  emits-places old new next first f places e = record {
+    added = e.added;
+    steps = e.steps;
+    extends = record { operations = e.extends.operations; arguments = e.extends.arguments; sides = e.extends.sides };
+    entries = e.entries;
+    there = e.there;
+    path = λ m rest st. (let path = e.path m rest st in record {
+      spots = path.spots;
+      count = path.count;
+      linked = λ spot later more are h. path.linked spot later (record { operations = more.operations; arguments = more.arguments; sides = more.sides }) are h;
+    });
   }
 
   -- ---------- simple statements ----------

@@ -10,7 +10,7 @@ use Rattle.perm_tree.specs.declared.bodies.Operation.{Operation}
 use Rattle.perm_tree.specs.declared.var_set.VarSet.{VarSet}
 use Rattle.perm_tree.specs.BodyTerms.{argument_of}
 use Rattle.perm_tree.specs.Code.{Code, End, Give, Recover}
-use Rattle.perm_tree.specs.CodeOf.{Setting, own_vars, var_at}
+use Rattle.perm_tree.specs.CodeNames.{Setting, own_vars, var_at}
 use Rattle.perm_tree.specs.Links.{most_variables}
 use Rattle.perm_tree.specs.Mentions.{argument_consumes, arguments_consume, block_writes, written}
 use Rattle.perm_tree.specs.Scopes.{declared_by, declared_if}

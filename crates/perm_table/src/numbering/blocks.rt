@@ -1,14 +1,18 @@
 //! Numbers the statements of a method, the last one first, so that each leads on to steps that are there.
 
-ghost use Rattle.std.specs.Prelude.{◌≡◌, ◌<◌, ◌≤◌, length, slice_get, slice_index, IfOk, Some};
+ghost use Rattle.std.specs.Prelude.{◌≡◌, ◌<◌, ◌≤◌, ◌++◌, length, slice_get, slice_index, IfOk, Some};
 ghost use Rattle.perm_tree.specs.CodeOf.{block_code, codes_of, kind_code, stmt_code};
 ghost use Rattle.perm_tree.specs.Places.{AllBelow, ElseBelow, IsPlaced, KindPlaced, RhsPlaced};
 ghost use Rattle.perm_tree.specs.Scopes.{else_stmts};
-ghost use Rattle.perm_table.specs.Emission.{if_code, par_code, recover_code, while_code, HasPar, IsAssignment, IsBlockEmitted, IsEmitted};
+ghost use Rattle.perm_tree.specs.declared.bodies.Action.TheVariants.{Give};
+ghost use Rattle.perm_tree.specs.InBody.{inner_places};
+ghost use Rattle.perm_tree.specs.StatementSteps.{Says, SaysTest};
+ghost use Rattle.perm_table.specs.Emission.{if_code, par_code, recover_code, while_code, HasPar, IsAssignment, IsBlockEmitted, IsEmitted, IsStmtEmitted};
 ghost use Rattle.perm_table.specs.Numbered.{IsSimpleKind};
 ghost use Rattle.perm_table.specs.Numbering.{setting_of};
+ghost use Rattle.perm_table.specs.StepPlaces.{block_holds, stmt_holds, within_stmt, HasPlaces, SaysAt};
 
-use crate::numbering::emit::{Fragment, add_sides, emit, settle};
+use crate::numbering::emit::{Emitted, Fragment, add_sides, emit, name_step, settle};
 use crate::numbering::expressions::number_expression;
 use crate::numbering::names::Names;
 use crate::numbering::simple::number_simple;
@@ -18,6 +22,14 @@ use perm_tree::bodies::{Action, Bodies, Sides};
 use perm_tree::errors::NoMemory;
 use perm_tree::var_set::VarSet;
 use std::alloc::Global;
+
+/// Where a statement is numbered: its place, its head, and the step that comes next.
+#[derive(Clone, Copy)]
+struct Site {
+    at: usize,
+    head: Span,
+    next: u32,
+}
 
 /// The statements of a block before a step that comes next.
 #[cycle(numbering)]
@@ -32,7 +44,8 @@ pub fn number_block(
     requires inside { AllBelow below stmts.now }
     requires below { below ≤ length names.now.tables.program.stmts }
     requires next { next < length bodies.old.steps }
-    ensures { IfOk result (IsEmitted (setting_of names.now) bodies.old next bodies.new (block_code (setting_of names.now) stmts.now)) }
+    requires places { HasPlaces names.now bodies.old }
+    ensures { IfOk result (IsEmitted (setting_of names.now) bodies.old next bodies.new (block_code (setting_of names.now) stmts.now) (block_holds (setting_of names.now) stmts.now)) }
 {
     let mut first = next;
     let mut written = VarSet::new();
@@ -64,7 +77,7 @@ fn stmt_at<'a>(names: &'a Names<'_>, at: usize) -> &'a Stmt
     &names.program().stmts()[at]
 }
 
-/// The statement at a place.
+/// The statement at a place, which is named once it is emitted.
 #[cycle(numbering)]
 fn number_stmt(
     alloc: Global,
@@ -75,14 +88,38 @@ fn number_stmt(
 ) -> Result<Fragment, NoMemory>
     requires at { at < length names.now.tables.program.stmts }
     requires next { next < length bodies.old.steps }
-    ensures { IfOk result (IsEmitted (setting_of names.now) bodies.old next bodies.new (stmt_code (setting_of names.now) at)) }
+    requires places { HasPlaces names.now bodies.old }
+    ensures { IfOk result (IsEmitted (setting_of names.now) bodies.old next bodies.new (stmt_code (setting_of names.now) at) (stmt_holds (setting_of names.now) at)) }
+{
+    let Emitted { fragment, step } = number_kind(alloc, bodies, names, at, next)?;
+    name_step(bodies, at, step);
+    Ok(fragment)
+}
+
+/// The statement at a place, by its kind.
+#[cycle(numbering)]
+fn number_kind(
+    alloc: Global,
+    bodies: &mut Bodies,
+    names: &Names<'_>,
+    at: usize,
+    next: u32,
+) -> Result<Emitted, NoMemory>
+    requires at { at < length names.now.tables.program.stmts }
+    requires next { next < length bodies.old.steps }
+    requires places { HasPlaces names.now bodies.old }
+    ensures { IfOk result (IsStmtEmitted (setting_of names.now) bodies.old next bodies.new (stmt_code (setting_of names.now) at) (within_stmt (setting_of names.now) at) (SaysAt (setting_of names.now) bodies.new at)) }
 {
     let stmt = stmt_at(names, at);
-    let head = stmt.head;
+    let site = Site {
+        at,
+        head: stmt.head,
+        next,
+    };
     match &stmt.kind {
-        StmtKind::If(e, yes, no) => number_if(alloc, bodies, names, at, head, *e, yes, no, next),
-        StmtKind::While(e, body) => number_while(alloc, bodies, names, at, head, *e, body, next),
-        StmtKind::Par(left, right) => number_par(alloc, bodies, names, at, head, left, right, next),
+        StmtKind::If(e, yes, no) => number_if(alloc, bodies, names, site, *e, yes, no),
+        StmtKind::While(e, body) => number_while(alloc, bodies, names, site, *e, body),
+        StmtKind::Par(left, right) => number_par(alloc, bodies, names, site, left, right),
         StmtKind::Assign(_, x, rhs) => number_assignment(
             alloc, bodies, names, at, stmt, *x, rhs, next,
         ),
@@ -101,20 +138,24 @@ fn number_assignment(
     x: Ident,
     rhs: &Rhs,
     next: u32,
-) -> Result<Fragment, NoMemory>
+) -> Result<Emitted, NoMemory>
     requires is { IsAssignment stmt.now.kind x rhs.now }
     requires placed { KindPlaced (length names.now.tables.program.exprs) at stmt.now.kind }
     requires at { at < length names.now.tables.program.stmts }
     requires next { next < length bodies.old.steps }
-    ensures { IfOk result (IsEmitted (setting_of names.now) bodies.old next bodies.new (kind_code (setting_of names.now) (codes_of (setting_of names.now)) stmt.now stmt.now.kind)) }
+    requires places { HasPlaces names.now bodies.old }
+    ensures { IfOk result (IsStmtEmitted (setting_of names.now) bodies.old next bodies.new (kind_code (setting_of names.now) (codes_of (setting_of names.now)) stmt.now stmt.now.kind) (block_holds (setting_of names.now) (inner_places stmt.now)) (Says (setting_of names.now) bodies.new stmt.now stmt.now.kind)) }
 {
     match rhs {
         Rhs::Recover(block, w, give) => {
             let w = names.variable(*w)?;
             let x = names.variable(x)?;
-            number_recover(
-                alloc, bodies, names, at, stmt.head, x, block, w, *give, next,
-            )
+            let site = Site {
+                at,
+                head: stmt.head,
+                next,
+            };
+            number_recover(alloc, bodies, names, site, x, block, w, *give)
         }
         _ => number_plain(alloc, bodies, names, stmt, next),
     }
@@ -127,15 +168,18 @@ fn number_plain(
     names: &Names<'_>,
     stmt: &Stmt,
     next: u32,
-) -> Result<Fragment, NoMemory>
+) -> Result<Emitted, NoMemory>
     requires simple { IsSimpleKind (length names.now.tables.program.exprs) stmt.now.kind }
     requires next { next < length bodies.old.steps }
-    ensures { IfOk result (IsEmitted (setting_of names.now) bodies.old next bodies.new (kind_code (setting_of names.now) (codes_of (setting_of names.now)) stmt.now stmt.now.kind)) }
+    ensures { IfOk result (IsStmtEmitted (setting_of names.now) bodies.old next bodies.new (kind_code (setting_of names.now) (codes_of (setting_of names.now)) stmt.now stmt.now.kind) (block_holds (setting_of names.now) (inner_places stmt.now)) (Says (setting_of names.now) bodies.new stmt.now stmt.now.kind)) }
 {
     let action = number_simple(alloc, bodies, names, &stmt.kind)?;
     let written = written_by(bodies, action);
     let first = emit(bodies, stmt.span, next, action)?;
-    Ok(Fragment { first, written })
+    Ok(Emitted {
+        fragment: Fragment { first, written },
+        step: first,
+    })
 }
 
 /// A block that stands alone, and what it writes of the outer variables.
@@ -151,6 +195,7 @@ fn number_braced(
     requires inside { AllBelow below block.now.stmts }
     requires below { below ≤ length names.now.tables.program.stmts }
     requires next { next < length bodies.old.steps }
+    requires places { HasPlaces names.now bodies.old }
     ensures { IfOk result (IsBlockEmitted (setting_of names.now) bodies.old next bodies.new block.now.stmts) }
 {
     let stmts = block.stmts.as_slice();
@@ -174,6 +219,7 @@ fn number_else(
     requires inside { ElseBelow below block.now }
     requires below { below ≤ length names.now.tables.program.stmts }
     requires next { next < length bodies.old.steps }
+    requires places { HasPlaces names.now bodies.old }
     ensures { IfOk result (IsBlockEmitted (setting_of names.now) bodies.old next bodies.new (else_stmts block.now)) }
 {
     match block {
@@ -190,26 +236,28 @@ fn number_if(
     alloc: Global,
     bodies: &mut Bodies,
     names: &Names<'_>,
-    at: usize,
-    head: Span,
+    site: Site,
     condition: u32,
     yes: &Block,
     no: &Option<Block>,
-    next: u32,
-) -> Result<Fragment, NoMemory>
+) -> Result<Emitted, NoMemory>
     requires condition { condition < length names.now.tables.program.exprs }
-    requires yes { AllBelow at yes.now.stmts }
-    requires no { ElseBelow at no.now }
-    requires at { at < length names.now.tables.program.stmts }
-    requires next { next < length bodies.old.steps }
-    ensures { IfOk result (IsEmitted (setting_of names.now) bodies.old next bodies.new (if_code (setting_of names.now) head condition yes.now.stmts (else_stmts no.now))) }
+    requires yes { AllBelow site.at yes.now.stmts }
+    requires no { ElseBelow site.at no.now }
+    requires at { site.at < length names.now.tables.program.stmts }
+    requires next { site.next < length bodies.old.steps }
+    requires places { HasPlaces names.now bodies.old }
+    ensures { IfOk result (IsStmtEmitted (setting_of names.now) bodies.old site.next bodies.new (if_code (setting_of names.now) site.head condition yes.now.stmts (else_stmts no.now)) (block_holds (setting_of names.now) yes.now.stmts ++ block_holds (setting_of names.now) (else_stmts no.now)) (SaysTest (setting_of names.now) bodies.new condition)) }
 {
-    let no = number_else(alloc, bodies, names, at, no, next)?;
-    let yes = number_braced(alloc, bodies, names, at, yes, next)?;
+    let no = number_else(alloc, bodies, names, site.at, no, site.next)?;
+    let yes = number_braced(alloc, bodies, names, site.at, yes, site.next)?;
     let condition = number_expression(alloc, bodies, names, condition)?;
-    Ok(Fragment {
-        first: emit(bodies, head, yes.first, Action::If(condition, no.first))?,
-        written: yes.written.union(no.written),
+    let action = Action::If(condition, no.first);
+    let first = emit(bodies, site.head, yes.first, action)?;
+    let written = yes.written.union(no.written);
+    Ok(Emitted {
+        fragment: Fragment { first, written },
+        step: first,
     })
 }
 
@@ -219,31 +267,31 @@ fn number_while(
     alloc: Global,
     bodies: &mut Bodies,
     names: &Names<'_>,
-    at: usize,
-    head: Span,
+    site: Site,
     condition: u32,
     body: &Block,
-    next: u32,
-) -> Result<Fragment, NoMemory>
+) -> Result<Emitted, NoMemory>
     requires condition { condition < length names.now.tables.program.exprs }
-    requires body { AllBelow at body.now.stmts }
-    requires at { at < length names.now.tables.program.stmts }
-    requires next { next < length bodies.old.steps }
-    ensures { IfOk result (IsEmitted (setting_of names.now) bodies.old next bodies.new (while_code (setting_of names.now) head condition body.now.stmts)) }
+    requires body { AllBelow site.at body.now.stmts }
+    requires at { site.at < length names.now.tables.program.stmts }
+    requires next { site.next < length bodies.old.steps }
+    requires places { HasPlaces names.now bodies.old }
+    ensures { IfOk result (IsStmtEmitted (setting_of names.now) bodies.old site.next bodies.new (while_code (setting_of names.now) site.head condition body.now.stmts) (block_holds (setting_of names.now) body.now.stmts) (SaysTest (setting_of names.now) bodies.new condition)) }
 {
     let condition = number_expression(alloc, bodies, names, condition)?;
-    let first = emit(bodies, head, next, Action::End)?;
-    let body = number_braced(alloc, bodies, names, at, body, first)?;
+    let first = emit(bodies, site.head, site.next, Action::End)?;
+    let body = number_braced(alloc, bodies, names, site.at, body, first)?;
     settle(
         bodies,
         first,
-        head,
-        next,
+        site.head,
+        site.next,
         Action::While(condition, body.first),
     );
-    Ok(Fragment {
-        first,
-        written: body.written,
+    let written = body.written;
+    Ok(Emitted {
+        fragment: Fragment { first, written },
+        step: first,
     })
 }
 
@@ -253,25 +301,25 @@ fn number_par(
     alloc: Global,
     bodies: &mut Bodies,
     names: &Names<'_>,
-    at: usize,
-    head: Span,
+    site: Site,
     left: &Block,
     right: &Block,
-    next: u32,
-) -> Result<Fragment, NoMemory>
-    requires left { AllBelow at left.now.stmts }
-    requires right { AllBelow at right.now.stmts }
-    requires at { at < length names.now.tables.program.stmts }
-    requires next { next < length bodies.old.steps }
-    ensures { IfOk result (IsEmitted (setting_of names.now) bodies.old next bodies.new (par_code (setting_of names.now) head left.now.stmts right.now.stmts)) }
+) -> Result<Emitted, NoMemory>
+    requires left { AllBelow site.at left.now.stmts }
+    requires right { AllBelow site.at right.now.stmts }
+    requires at { site.at < length names.now.tables.program.stmts }
+    requires next { site.next < length bodies.old.steps }
+    requires places { HasPlaces names.now bodies.old }
+    ensures { IfOk result (IsStmtEmitted (setting_of names.now) bodies.old site.next bodies.new (par_code (setting_of names.now) site.head left.now.stmts right.now.stmts) (block_holds (setting_of names.now) left.now.stmts ++ block_holds (setting_of names.now) right.now.stmts) (λ action. Unit {0})) }
 {
-    let end = emit(bodies, head, next, Action::End)?;
-    let left = number_braced(alloc, bodies, names, at, left, end)?;
-    let right = number_braced(alloc, bodies, names, at, right, end)?;
-    let first = emit_par(bodies, head, next, left, right)?;
-    Ok(Fragment {
-        first,
-        written: left.written.union(right.written),
+    let end = emit(bodies, site.head, site.next, Action::End)?;
+    let left = number_braced(alloc, bodies, names, site.at, left, end)?;
+    let right = number_braced(alloc, bodies, names, site.at, right, end)?;
+    let first = emit_par(bodies, site.head, site.next, left, right)?;
+    let written = left.written.union(right.written);
+    Ok(Emitted {
+        fragment: Fragment { first, written },
+        step: first,
     })
 }
 
@@ -305,26 +353,26 @@ fn number_recover(
     alloc: Global,
     bodies: &mut Bodies,
     names: &Names<'_>,
-    at: usize,
-    head: Span,
+    site: Site,
     x: u32,
     block: &Block,
     given: u32,
     give: Span,
-    next: u32,
-) -> Result<Fragment, NoMemory>
-    requires inside { AllBelow at block.now.stmts }
-    requires at { at < length names.now.tables.program.stmts }
-    requires next { next < length bodies.old.steps }
-    ensures { IfOk result (IsEmitted (setting_of names.now) bodies.old next bodies.new (recover_code (setting_of names.now) head x block.now.stmts given give)) }
+) -> Result<Emitted, NoMemory>
+    requires inside { AllBelow site.at block.now.stmts }
+    requires at { site.at < length names.now.tables.program.stmts }
+    requires next { site.next < length bodies.old.steps }
+    requires places { HasPlaces names.now bodies.old }
+    ensures { IfOk result (IsStmtEmitted (setting_of names.now) bodies.old site.next bodies.new (recover_code (setting_of names.now) site.head x block.now.stmts given give) (block_holds (setting_of names.now) block.now.stmts) (λ action. action ≡ Give given x)) }
 {
     let stmts = block.stmts.as_slice();
-    let end = emit(bodies, give, next, Action::Give(given, x))?;
-    let body = number_block(alloc, bodies, names, at, stmts, end)?;
-    let first = emit(bodies, head, body.first, Action::Recover)?;
+    let end = emit(bodies, give, site.next, Action::Give(given, x))?;
+    let body = number_block(alloc, bodies, names, site.at, stmts, end)?;
+    let first = emit(bodies, site.head, body.first, Action::Recover)?;
     let inner = with(with(body.written, given), x);
-    Ok(Fragment {
-        first,
-        written: with(outer(inner, names, at, stmts)?, x),
+    let written = with(outer(inner, names, site.at, stmts)?, x);
+    Ok(Emitted {
+        fragment: Fragment { first, written },
+        step: end,
     })
 }

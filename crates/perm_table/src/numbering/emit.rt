@@ -15,6 +15,13 @@ pub struct Fragment {
     pub written: VarSet,
 }
 
+/// A statement that has been emitted, with the place of the step that says what it does.
+#[derive(Clone, Copy)]
+pub struct Emitted {
+    pub fragment: Fragment,
+    pub step: u32,
+}
+
 /// Adds a step, and answers its place.
 pub fn emit(bodies: &mut Bodies, span: Span, next: u32, action: Action) -> Result<u32, NoMemory>
     ensures place { IfOk result (λ at. at ≡ length bodies.old.steps) }
@@ -31,6 +38,14 @@ pub fn settle(bodies: &mut Bodies, at: u32, span: Span, next: u32, action: Actio
     ensures { bodies.new ≡ record bodies.old { steps = slice_set bodies.old.steps at (record { span = span; next = next; action = action }) } }
 {
     bodies.steps.set(at as usize, Step { span, next, action });
+}
+
+/// Names the step of the statement at a place.
+pub fn name_step(bodies: &mut Bodies, at: usize, step: u32)
+    requires { at < length bodies.old.places }
+    ensures { bodies.new ≡ record bodies.old { places = slice_set bodies.old.places at step } }
+{
+    bodies.places.set(at, step);
 }
 
 /// Adds what the sides of a par write, and answers its place.

@@ -2,7 +2,7 @@
 
 ghost use Rattle.std.specs.Prelude.{◌≡◌, ◌<◌, [], ◌∷◌, ◌++◌, length, map, slice_index, IfOk, OnOk};
 ghost use Rattle.perm_tree.specs.BodyTerms.{operation_terms, AreOrdered};
-ghost use Rattle.perm_tree.specs.CodeOf.{argument, term_at, term_of, terms_of};
+ghost use Rattle.perm_tree.specs.CodeNames.{argument, term_at, term_of, terms_of};
 ghost use Rattle.perm_tree.specs.Lows.{lows_of};
 ghost use Rattle.perm_tree.specs.Places.{ArgPlaced, ArgsPlaced};
 ghost use Rattle.perm_table.specs.Numbering.{setting_of};

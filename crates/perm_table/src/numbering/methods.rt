@@ -1,12 +1,12 @@
 //! Numbers the methods of a program, in text order.
 
-ghost use Rattle.std.specs.Prelude.{◌≡◌, [], ◌∷◌, ◌++◌, length, IfOk, Some};
-ghost use Rattle.perm_tree.specs.CodeOf.{code_of};
+ghost use Rattle.std.specs.Prelude.{◌≡◌, [], ◌∷◌, ◌++◌, length, replicate, IfOk, Some};
 ghost use Rattle.perm_tree.specs.Lookup.{method_of};
 ghost use Rattle.perm_tree.specs.Places.{MethodPlaced};
 ghost use Rattle.perm_tree.specs.Resolves.{IsResolved};
 ghost use Rattle.perm_table.specs.Emission.{AreEmitted, HasMethod, IsMethodEmitted};
 ghost use Rattle.perm_table.specs.Numbering.{setting_of};
+ghost use Rattle.perm_table.specs.StepPlaces.{HasPlaces};
 
 use crate::numbering::blocks::number_block;
 use crate::numbering::emit::emit;
@@ -21,18 +21,20 @@ use perm_tree::program::Program;
 use perm_tree::unit::MethodTable;
 use std::alloc::Global;
 
-fn empty(alloc: Global) -> Bodies
-    ensures { result ≡ record { operations = []; arguments = []; sides = []; steps = []; entries = []; run = 0; fields = 0 } }
+/// No method yet, and a place for the step of each statement.
+fn empty(alloc: Global, stmts: usize) -> Result<Bodies, NoMemory>
+    ensures { IfOk result (λ b. b ≡ record { operations = []; arguments = []; sides = []; steps = []; places = replicate stmts 0; entries = []; run = 0; fields = 0 }) }
 {
-    Bodies {
+    Ok(Bodies {
         operations: List::new(alloc),
         arguments: List::new(alloc),
         sides: List::new(alloc),
         steps: List::new(alloc),
+        places: List::from_vec(vec![in alloc; 0; stmts]?),
         entries: List::new(alloc),
         run: 0,
         fields: 0,
-    }
+    })
 }
 
 /// The method of a table.
@@ -55,6 +57,7 @@ fn number_method(
 ) -> Result<(), NoMemory>
     requires variables { variables ≡ length names.now.vars }
     requires placed { MethodPlaced (length names.now.tables.program.exprs) (length names.now.tables.program.stmts) method.now }
+    requires places { HasPlaces names.now bodies.old }
     ensures { IfOk result (λ _. IsMethodEmitted (setting_of names.now) bodies.old bodies.new method.now) }
 {
     let back = number_argument(alloc, bodies, names, method.back)?;
@@ -68,13 +71,17 @@ fn number_method(
         method.body.stmts.as_slice(),
         end,
     )?;
-    add_entry(bodies, body.first, variables)
+    add_entry(bodies, body.first, end, variables)
 }
 
-fn add_entry(bodies: &mut Bodies, first: u32, variables: u32) -> Result<(), NoMemory>
-    ensures { IfOk result (λ _. bodies.new ≡ record bodies.old { entries = bodies.old.entries ++ record { first = first; variables = variables } ∷ [] }) }
+fn add_entry(bodies: &mut Bodies, first: u32, last: u32, variables: u32) -> Result<(), NoMemory>
+    ensures { IfOk result (λ _. bodies.new ≡ record bodies.old { entries = bodies.old.entries ++ record { first = first; last = last; variables = variables } ∷ [] }) }
 {
-    bodies.entries.push(Entry { first, variables })
+    bodies.entries.push(Entry {
+        first,
+        last,
+        variables,
+    })
 }
 
 /// The bodies of all methods of a resolved program, but for where a run starts.
@@ -84,10 +91,10 @@ pub fn number_methods(
     tables: &[MethodTable],
 ) -> Result<Bodies, NoMemory>
     requires { IsResolved (record { program = program.now; tables = tables.now }) }
-    ensures { IfOk result (AreEmitted (code_of (record { program = program.now; tables = tables.now })) (length tables.now)) }
+    ensures { IfOk result (AreEmitted (record { program = program.now; tables = tables.now }) (length tables.now)) }
 {
     let numbers = UnitNumbers::new(alloc, program)?;
-    let mut bodies = empty(alloc);
+    let mut bodies = empty(alloc, program.stmts().len())?;
     'tables: for table in tables {
         let vars = table.vars.as_slice();
         let names = Names::new(program, tables, &numbers, vars);

@@ -3,7 +3,8 @@
 ghost use Rattle.std.specs.Prelude.{◌≡◌, ◌&&◌, length, nat_eq, slice_get, slice_index, IfOk};
 ghost use Rattle.std.specs.List.{position, position_or_len};
 ghost use Rattle.perm_tree.specs.BodyTerms.{HasFields};
-ghost use Rattle.perm_tree.specs.CodeOf.{code_of, field_at, ty_at, var_at};
+ghost use Rattle.perm_tree.specs.CodeNames.{field_at, ty_at, var_at};
+ghost use Rattle.perm_tree.specs.CodeOf.{code_of};
 ghost use Rattle.perm_tree.specs.Lookup.{class_place, field_place, is_array, is_known_as, method_place, var_place, var_ty};
 ghost use Rattle.perm_tree.specs.Scopes.{tables_of};
 ghost use Rattle.perm_tree.specs.Spelling.{is_word, length_word};

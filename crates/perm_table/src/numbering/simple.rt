@@ -3,7 +3,8 @@
 ghost use Rattle.std.specs.Prelude.{◌<◌, length, None, Some, IfOk};
 ghost use Rattle.perm_tree.specs.declared.bodies.Bodies.{Bodies};
 ghost use Rattle.perm_tree.specs.Code as code;
-ghost use Rattle.perm_tree.specs.CodeOf.{argument, call as call_of, code_of, field_at, read, term_at, var_at};
+ghost use Rattle.perm_tree.specs.CodeNames.{argument, call as call_of, field_at, read, term_at, var_at};
+ghost use Rattle.perm_tree.specs.CodeOf.{code_of};
 ghost use Rattle.perm_tree.specs.Lookup.{class_place};
 ghost use Rattle.perm_tree.specs.Places.{ArgPlaced, ArgsPlaced};
 ghost use Rattle.perm_table.specs.Numbered.{assigns, does, states, IsSimpleKind, IsSimpleRhs, TellsCode};

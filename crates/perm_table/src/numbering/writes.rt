@@ -4,7 +4,7 @@ ghost use Rattle.std.specs.Prelude.{◌+◌, ◌≤◌, List, length, map, IfOk}
 ghost use Rattle.perm_tree.specs.declared.bodies.Operation.{Operation};
 ghost use Rattle.perm_tree.specs.BodyTerms.{argument_of, instruction_of, stretch};
 ghost use Rattle.perm_tree.specs.Code.{Tie};
-ghost use Rattle.perm_tree.specs.CodeOf.{own_vars, var_at};
+ghost use Rattle.perm_tree.specs.CodeNames.{own_vars, var_at};
 ghost use Rattle.perm_tree.specs.Mentions.{argument_consumes, arguments_consume, just_if, just_option};
 ghost use Rattle.perm_tree.specs.Places.{AllBelow};
 ghost use Rattle.perm_tree.specs.Scopes.{declared_by};

@@ -12,7 +12,7 @@ use Rattle.perm_tree.specs.declared.ast.Span.{Span}
 use Rattle.perm_tree.specs.declared.ast.Ty.{Ty}
 use Rattle.perm_tree.specs.declared.ast.Ty.TheVariants.{Ref}
 use Rattle.perm_tree.specs.Code.{Argument, Expression, Consumed, Tie, Shares, Raises, Lends, Invoke, Code, Do, Routine, UnitCode}
-use Rattle.perm_tree.specs.CodeOf.{is_tied}
+use Rattle.perm_tree.specs.CodeNames.{is_tied}
 use Rattle.perm_tree.specs.Mentions.{any_in_argument, any_in_option, argument_consumes, arguments_consume, mentions}
 use Rattle.perm_tree.specs.Ties.{is_harmless, is_harmless_consumed}
 use Rattle.perm_tree.specs.Vars.{Vars, just, those, IsWithin}

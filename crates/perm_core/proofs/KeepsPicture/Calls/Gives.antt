@@ -9,7 +9,7 @@ use Rattle.perm_tree.specs.declared.ast.Shape.{Shape}
 use Rattle.perm_tree.specs.declared.ast.Ty.{Ty}
 use Rattle.perm_tree.specs.declared.ast.Ty.TheVariants.{Ref}
 use Rattle.perm_tree.specs.Code.{Code, UnitCode}
-use Rattle.perm_tree.specs.CodeOf.{is_tied}
+use Rattle.perm_tree.specs.CodeNames.{is_tied}
 use Rattle.perm_tree.specs.Shapes.{same_shape}
 use Rattle.perm_tree.specs.Vars.{Vars, those, minus, meet}
 use Rattle.perm_perm.specs.Adaptation.{raised}

@@ -9,7 +9,7 @@ use Rattle.perm_tree.specs.declared.ast.Shape.TheVariants.{Class, Array}
 use Rattle.perm_tree.specs.declared.ast.Ty.{Ty}
 use Rattle.perm_tree.specs.declared.ast.Ty.TheVariants.{Long, Bool as Boolean, Ref}
 use Rattle.perm_tree.specs.Code.{Code, UnitCode, Tie, Shares, Raises, Lends}
-use Rattle.perm_tree.specs.CodeOf.{is_tied}
+use Rattle.perm_tree.specs.CodeNames.{is_tied}
 use Rattle.perm_tree.specs.Shapes.{same_shape}
 use Rattle.perm_perm.specs.Adaptation.{raised}
 use Rattle.perm_perm.specs.Order.{is_at_most}

@@ -11,7 +11,7 @@ use Rattle.perm_tree.specs.declared.ast.Ty.{Ty}
 use Rattle.perm_tree.specs.declared.ast.Ty.TheVariants.{Long, Bool as Boolean, Ref}
 use Rattle.perm_tree.specs.declared.errors.TypeKind.TheVariants.{UnknownName, WrongKind, NeedsConsume, NotAllowedThrough, PermissionTooWeak}
 use Rattle.perm_tree.specs.Code.{Term, LoadField, LoadLength, LoadItem, Code, Do, UnitCode}
-use Rattle.perm_tree.specs.CodeOf.{is_tied}
+use Rattle.perm_tree.specs.CodeNames.{is_tied}
 use Rattle.perm_tree.specs.Mentions.{any_in_term}
 use Rattle.perm_tree.specs.Vars.{Vars}
 use Rattle.perm_perm.specs.Adaptation.{adapted}

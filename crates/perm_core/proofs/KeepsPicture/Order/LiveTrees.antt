@@ -5,7 +5,7 @@ use Rattle.std.proofs.lemmas.Bool.{and_parts}
 use Rattle.perm_tree.specs.declared.ast.Shape.{Shape}
 use Rattle.perm_tree.specs.declared.ast.Ty.{Ty}
 use Rattle.perm_tree.specs.Code.{Tie, Shares, Raises, Lends, Instruction, Code, End, Give, Return, Do, If, While, Par, Recover, UnitCode}
-use Rattle.perm_tree.specs.CodeOf.{is_tied}
+use Rattle.perm_tree.specs.CodeNames.{is_tied}
 use Rattle.perm_tree.specs.Mentions.{assigns, block_mentions}
 use Rattle.perm_tree.specs.Vars.{Vars, none, just, those, plus, minus, IsWithin}
 use Rattle.perm_tree.proofs.MentionLaws.{same-within}

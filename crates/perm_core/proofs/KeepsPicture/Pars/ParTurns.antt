@@ -10,7 +10,7 @@ use Rattle.perm_tree.specs.declared.ast.Ty.{Ty}
 use Rattle.perm_tree.specs.declared.ast.Ty.TheVariants.{Ref}
 use Rattle.perm_tree.specs.declared.errors.TypeKind.TheVariants.{ParShared, ParPermission}
 use Rattle.perm_tree.specs.Code.{Code, Routine, UnitCode}
-use Rattle.perm_tree.specs.CodeOf.{is_tied}
+use Rattle.perm_tree.specs.CodeNames.{is_tied}
 use Rattle.perm_tree.specs.Mentions.{block_mentions}
 use Rattle.perm_tree.specs.Names.{is_writable}
 use Rattle.perm_tree.specs.Vars.{Vars, below, those, meet}

@@ -17,18 +17,18 @@ no_step = record { span = record { start = 0; end = 0 }; next = 0; action = Decl
 
 pub bounds-as_slice-bodies : goal.bounds-as_slice-bodies
 bounds-as_slice-bodies c =
-    let a = c.bodies-bodies.ensures in
+    let a = c.bodies-bodies.ensures.linked in
     omega (arith, slice_get_within (code_of c.args.unit.now).routines (code_of c.args.unit.now).run c.requires.0 c.requires.1, a.entries, a.run, ap (λ (l : List Entry). length l) c.as_slice.ensures)
 
 pub loop-back-init : goal.loop-back-init
 loop-back-init c =
     let u = code_of c.args.unit.now in
     let b = c.bodies-bodies.result.now in
-    let a = c.bodies-bodies.ensures in
+    let a = c.bodies-bodies.ensures.linked in
     let held : c.push-2.new.self.items ≡ Other ∷ Other ∷ [] = c.in_ok-push-2.ensures.items ∙ ap (λ (l : List Holds). l ++ Other ∷ []) (c.in_ok-push.ensures.items ∙ ap (λ (l : List Holds). l ++ Other ∷ []) c.new-held.ensures.items) in
     let within : b.run < length b.entries = omega (arith, slice_get_within u.routines u.run c.requires.0 c.requires.1, a.entries, a.run) in
-    let entry : Entry = get_or c.as_slice.result.now b.run (record { first = 0; variables = 0 }) in
-    (a, course-begins u b a c.args.fields c.args.variables c.requires.0 c.requires.1 entry (read_at c.as_slice.result.now b.entries b.run (record { first = 0; variables = 0 }) c.as_slice.ensures within) c.push-2.new.self.items held)
+    let entry : Entry = get_or c.as_slice.result.now b.run (record { first = 0; last = 0; variables = 0 }) in
+    (a, course-begins u b a c.args.fields c.args.variables c.requires.0 c.requires.1 entry (read_at c.as_slice.result.now b.entries b.run (record { first = 0; last = 0; variables = 0 }) c.as_slice.ensures within) c.push-2.new.self.items held)
 
 pub bounds-as_slice-at : goal.bounds-as_slice-at
 bounds-as_slice-at c = omega (arith, c.loop-back.invariant.1.0, ap (λ (l : List Step). length l) c.as_slice-in-loop-back.ensures)

@@ -4,7 +4,7 @@ use Rattle.perm_tree.specs.declared.ast.Arg.TheVariants.{Expr as Plain}
 use Rattle.perm_tree.specs.declared.bodies.Argument.{Argument}
 use Rattle.perm_tree.specs.declared.bodies.Bodies.{Bodies}
 use Rattle.perm_tree.specs.Code as code
-use Rattle.perm_tree.specs.CodeOf.{argument}
+use Rattle.perm_tree.specs.CodeNames.{argument}
 use Rattle.perm_table.specs.Numbered.{TellsArguments}
 use Rattle.perm_table.specs.Numbering.{setting_of}
 use Rattle.perm_table.proofs.NumberingArguments.{arguments-none, arguments-more, args-placed-at, map-more}

@@ -1,6 +1,6 @@
 use Rattle.std.proofs.Common.{take}
 use Rattle.std.specs.Prelude.{map}
-use Rattle.perm_tree.specs.CodeOf.{argument}
+use Rattle.perm_tree.specs.CodeNames.{argument}
 use Rattle.perm_table.specs.Numbered.{TellsArguments}
 use Rattle.perm_table.specs.Numbering.{setting_of}
 use Rattle.perm_table.proofs.numbering.expressions.number_arguments.Given as goal

@@ -8,7 +8,8 @@ use Rattle.perm_tree.specs.declared.bodies.Bodies.{Bodies}
 use Rattle.perm_tree.specs.BodyTerms.{argument_of, stretch, AreArgumentsIn}
 use Rattle.perm_tree.specs.Code as code
 use Rattle.perm_tree.specs.Code.{Do, Tie, UnitCode}
-use Rattle.perm_tree.specs.CodeOf.{argument, call_tie, code_of, ty_at, var_at}
+use Rattle.perm_tree.specs.CodeNames.{argument, call_tie, ty_at, var_at}
+use Rattle.perm_tree.specs.CodeOf.{code_of}
 use Rattle.perm_tree.specs.Lookup.{method_place}
 use Rattle.perm_table.specs.Numbered.{does, TellsArguments, TellsCode}
 use Rattle.perm_table.specs.Numbering.{setting_of}

@@ -4,7 +4,8 @@ use Rattle.perm_tree.specs.declared.bodies.Bodies.{Bodies}
 use Rattle.perm_tree.specs.declared.bodies.Expression.{Expression}
 use Rattle.perm_tree.specs.Code as code
 use Rattle.perm_tree.specs.Code.{Do, Shares, Term, UnitCode}
-use Rattle.perm_tree.specs.CodeOf.{code_of, term_at, var_at}
+use Rattle.perm_tree.specs.CodeNames.{term_at, var_at}
+use Rattle.perm_tree.specs.CodeOf.{code_of}
 use Rattle.perm_table.specs.Numbered.{does, TellsCode, TellsTerm}
 use Rattle.perm_table.specs.Numbering.{setting_of}
 use Rattle.perm_table.proofs.Growth.{Grows-trans, expression-in-stays, expression-stays}

@@ -2,7 +2,7 @@ use Rattle.std.proofs.Common.{◌≡◌, ◌∙◌, ◌<◌, ap, sym, arith, len
 use Rattle.std.specs.Prelude.{Some, slice_get, slice_index}
 use Rattle.std.proofs.lemmas.Option.{slice_get-get_or}
 use Rattle.perm_tree.specs.declared.ast.Stmt.{Stmt}
-use Rattle.perm_tree.specs.CodeOf.{own_vars}
+use Rattle.perm_tree.specs.CodeNames.{own_vars}
 use Rattle.perm_tree.specs.Places.{Listing}
 use Rattle.perm_tree.specs.Vars.{those}
 use Rattle.perm_table.specs.Numbering.{setting_of}

@@ -1,5 +1,5 @@
 use Rattle.std.proofs.Common.{◌≡◌, ℕ, ◌<◌, drop}
-use Rattle.perm_tree.specs.CodeOf.{own_vars}
+use Rattle.perm_tree.specs.CodeNames.{own_vars}
 use Rattle.perm_tree.specs.Links.{most_variables}
 use Rattle.perm_tree.specs.Vars.{plus, those}
 use Rattle.perm_tree.specs.VarSets.{member}

@@ -16,4 +16,4 @@ invariant_of-self-2 c =
     let fits : ExprBelow (length p.exprs) c.args.expr = subst (λ (v : Listing). ExprBelow (length v.exprs) c.args.expr) (sym c.self.view_is) c.requires in
     let pushed : c.push-2.new.self.items ≡ c.reserve.new.self.items ++ c.low_among-low.result ∷ [] = rw c.unwrap.ensures at c.push-2.ensures.items in
     let low : c.low_among-low.result ≡ low_in c.reserve.new.self.items c.args.expr = c.low_among-low.ensures ∙ ap (λ l. low_in l c.args.expr) (c.as_slice.ensures.value ∙ sym c.reserve.ensures.items) in
-    (subst P (sym c.in_ok-push.ensures.ok) (more_exprs p c.args.expr c.self.invariant.0 fits), lows_of-push p.exprs c.push.new.self c.args.expr c.reserve.new.self.items c.push-2.new.self.items c.low_among-low.result (c.reserve.ensures.items ∙ c.self.invariant.1) c.in_ok-push.ensures.ok low pushed)
+    (subst P (sym c.in_ok-push.ensures.ok) (more_exprs p c.args.expr c.self.invariant.0 fits c.literal.ensures), lows_of-push p.exprs c.push.new.self c.args.expr c.reserve.new.self.items c.push-2.new.self.items c.low_among-low.result (c.reserve.ensures.items ∙ c.self.invariant.1) c.in_ok-push.ensures.ok low pushed)

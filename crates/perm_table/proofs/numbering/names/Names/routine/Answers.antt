@@ -1,7 +1,7 @@
 use Rattle.std.proofs.Common.{◌≡◌, ◌∙◌, sym, ap, subst}
 use Rattle.std.specs.Prelude.{IfOk, Some}
 use Rattle.std.proofs.lemmas.Result.{IfOk-weaker}
-use Rattle.perm_tree.specs.CodeOf.{ty_at}
+use Rattle.perm_tree.specs.CodeNames.{ty_at}
 use Rattle.perm_tree.specs.Lookup.{method_place, var_place, var_ty}
 use Rattle.perm_tree.specs.UnitTables.{Tables}
 use Rattle.perm_table.specs.Numbering.{class_in, setting_of, Naming}

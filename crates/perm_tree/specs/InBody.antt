@@ -1,15 +1,32 @@
--- The statements and blocks of a method's body, by their places.
+-- What stands in a method that is named by its number: its variables, and the statements and blocks of its body by their places.
 use Rattle.std.specs.Prelude.{◌≡◌, ℕ, List, [], ◌∷◌, ◌++◌, get_or, Option, Some, None, slice_get, Contains}
 use Rattle.perm_tree.specs.declared.ast.Stmt.{Stmt}
 use Rattle.perm_tree.specs.declared.ast.StmtKind.TheVariants.{Par}
 use Rattle.perm_tree.specs.declared.ast.Block.{Block}
 use Rattle.perm_tree.specs.declared.ast.Method.{Method}
 use Rattle.perm_tree.specs.declared.unit.MethodTable.{MethodTable}
+use Rattle.perm_tree.specs.declared.unit.VarInfo.{VarInfo}
 use Rattle.perm_tree.specs.Blocks.{kind_blocks, block_places}
+use Rattle.perm_tree.specs.CodeNames.{Setting, setting}
 use Rattle.perm_tree.specs.Entries.{entries_of}
 use Rattle.perm_tree.specs.Lookup.{method_of}
 use Rattle.perm_tree.specs.UnitTables.{Tables}
 
+-- ---------- its variables ----------
+-- the variables of a table, if it is there
+abbrev pub vars_if : Option MethodTable → List VarInfo
+vars_if None = []
+vars_if (Some t) = t.vars
+
+-- the variables of the method with number m
+abbrev pub vars_at : Tables → ℕ → List VarInfo
+vars_at u m = vars_if (slice_get u.tables m)
+
+-- what its code is made with
+abbrev pub setting_at : Tables → ℕ → Setting
+setting_at u m = setting u (vars_at u m)
+
+-- ---------- its statements ----------
 -- the places of the statements of a statement's blocks
 abbrev pub inner_places : Stmt → List ℕ
 inner_places s = block_places (kind_blocks s.kind)
@@ -50,6 +67,7 @@ pub record HasStmt (u : Tables) (m at : ℕ) (s : Stmt) : Type 0 where
   pub inside : IsStmtOf u m at
   pub here : slice_get u.program.stmts at ≡ Some s
 
+-- ---------- its blocks ----------
 -- a block is the body itself, or one of a statement of it
 pub data IsBlockOf (u : Tables) (m : ℕ) (b : Block) : Type 0 where
   Body : (d : Method) → method_at u m ≡ Some d → b ≡ d.body → IsBlockOf u m b

@@ -1,7 +1,7 @@
 -- In a program whose statements each stand in one block, two statements hold no statement in common, and none holds one of a method's body.
 use Rattle.std.proofs.Common.{◌≡◌, ◌≢◌, ℕ, zero, suc, ◌<◌, true, List, [], ◌∷◌, ◌++◌, length, Some, refl, sym, ◌∙◌, ap, subst, arith, append_assoc, get_or, inl, inr}
-use Rattle.std.specs.Prelude.{◌⊎◌, AllPairs, flat_map, map, nat_eq, slice_get}
-use Rattle.std.proofs.lemmas.Bool.{eqb-true, or_cases, or_left, or_right}
+use Rattle.std.specs.Prelude.{◌⊎◌, AllPairs, Contains, flat_map, map, nat_eq, slice_get}
+use Rattle.std.proofs.lemmas.Bool.{eqb-true, eq-eqb, or_cases, or_left, or_right}
 use Rattle.std.proofs.lemmas.Grind.{flat_map-append}
 use Rattle.std.proofs.lemmas.List.{map-append}
 use Rattle.std.proofs.lemmas.List.Folds.{list_any-append}
@@ -13,7 +13,7 @@ use Rattle.perm_tree.specs.Blocks.{kind_blocks, stmt_blocks, block_places, HasSt
 use Rattle.perm_tree.specs.Places.{Listing}
 use Rattle.perm_tree.specs.TextOrder.{methods_of}
 use Rattle.perm_tree.specs.Vars.{those}
-use Rattle.perm_rules.specs.InBody.{inner_places}
+use Rattle.perm_tree.specs.InBody.{inner_places}
 
 -- ---------- listed numbers ----------
 pub those-left : (xs ys : List ℕ) (i : ℕ) → those xs i ≡ true → those (xs ++ ys) i ≡ true
@@ -24,6 +24,15 @@ those-right xs ys i e = list_any-append (nat_eq i) xs ys ∙ or_right (those xs 
 
 pub those-parts : (xs ys : List ℕ) (i : ℕ) → those (xs ++ ys) i ≡ true → (those xs i ≡ true) ⊎ (those ys i ≡ true)
 those-parts xs ys i e = or_cases (those xs i) (those ys i) (sym (list_any-append (nat_eq i) xs ys) ∙ e)
+
+-- an element is listed
+pub those-contained : (xs : List ℕ) (i : ℕ) → Contains xs i → those xs i ≡ true
+those-contained xs i (k, within, is) = at xs k within is
+  where
+    at : (xs : List ℕ) (k : ℕ) → k < length xs → get_or xs k i ≡ i → those xs i ≡ true
+    at [] k within is = absurd (omega arith)
+    at (x ∷ xs) zero within is = or_left (nat_eq i x) (those xs i) (eq-eqb i x (sym is))
+    at (x ∷ xs) (suc k) within is = or_right (nat_eq i x) (those xs i) (at xs k (omega arith) is)
 
 -- a listed number stands at some place
 place-of : (xs : List ℕ) (i : ℕ) → those xs i ≡ true → (k : ℕ) × (k < length xs) × (get_or xs k 0 ≡ i)
@@ -69,7 +78,7 @@ places-cons : (t : Stmt) (ss : List Stmt) → block_places (stmt_blocks (t ∷ s
 places-cons t ss = flat_map-append (λ b. b.stmts) (kind_blocks t.kind) (stmt_blocks ss)
 
 -- what stands in the blocks of one of some statements stands in their blocks
-inner-listed : (ss : List Stmt) (j : ℕ) (s : Stmt) (i : ℕ) → slice_get ss j ≡ Some s → those (inner_places s) i ≡ true → those (block_places (stmt_blocks ss)) i ≡ true
+pub inner-listed : (ss : List Stmt) (j : ℕ) (s : Stmt) (i : ℕ) → slice_get ss j ≡ Some s → those (inner_places s) i ≡ true → those (block_places (stmt_blocks ss)) i ≡ true
 inner-listed [] j s i here e = absurd (let no : ⊥ = cc here in no)
 inner-listed (t ∷ ss) zero s i here e =
     let same : t ≡ s = cc here in
@@ -99,10 +108,10 @@ holder-same (r ∷ ss) rest all j k s t i here there e f = by-places j k here th
 
 -- ---------- programs ----------
 -- the places of the statements of a program's bodies
-abbrev body_listed : Listing → List ℕ
+abbrev pub body_listed : Listing → List ℕ
 body_listed p = block_places (map (λ d. d.body) (methods_of p))
 
-once-places : (p : Listing) → HasStatementsOnce p → AreApart (block_places (stmt_blocks p.stmts) ++ body_listed p)
+pub once-places : (p : Listing) → HasStatementsOnce p → AreApart (block_places (stmt_blocks p.stmts) ++ body_listed p)
 once-places p once = subst AreApart (flat_map-append (λ b. b.stmts) (stmt_blocks p.stmts) (map (λ d. d.body) (methods_of p))) once.apart
 
 -- no two statements of a program hold one
@@ -110,7 +119,7 @@ pub holders-same : (p : Listing) → HasStatementsOnce p → (j k : ℕ) (s t : 
     → those (inner_places s) i ≡ true → those (inner_places t) i ≡ true → j ≡ k
 holders-same p once = holder-same p.stmts (body_listed p) (once-places p once)
 
-method-listed : (ds : List Method) (n : ℕ) (d : Method) (i : ℕ) → slice_get ds n ≡ Some d → those d.body.stmts i ≡ true → those (block_places (map (λ d. d.body) ds)) i ≡ true
+pub method-listed : (ds : List Method) (n : ℕ) (d : Method) (i : ℕ) → slice_get ds n ≡ Some d → those d.body.stmts i ≡ true → those (block_places (map (λ d. d.body) ds)) i ≡ true
 method-listed [] n d i here e = absurd (let no : ⊥ = cc here in no)
 method-listed (c ∷ ds) zero d i here e =
     let same : c ≡ d = cc here in
