@@ -23,10 +23,10 @@ use Rattle.perm_rules.specs.Laws.{AgreeOnKnown, RefusedByKnown}
 use Rattle.perm_rules.proofs.Refusals.ErrorLists.{first_error-append}
 
 -- two sets agree where a test fails
-abbrev Agree : Vars → Vars → Vars → Type 0
+abbrev pub Agree : Vars → Vars → Vars → Type 0
 Agree U S T = (x : ℕ) → U x ≡ false → S x ≡ T x
 
-or-same : (a b x y : Bool) → a ≡ x → b ≡ y → (a || b) ≡ (x || y)
+pub or-same : (a b x y : Bool) → a ≡ x → b ≡ y → (a || b) ≡ (x || y)
 or-same a b x y e f = ap (λ (c : Bool). c || b) e ∙ ap (λ (c : Bool). x || c) f
 
 module _ (U : Vars) where
@@ -36,7 +36,7 @@ module _ (U : Vars) where
   minus-agree : (G H C : Vars) → Agree U G H → Agree U (minus G C) (minus H C)
   minus-agree G H C w x u = ap (λ (b : Bool). b && not (C x)) (w x u)
 
-  term-agree : (S T : Vars) → Agree U S T → (e : Term) → any_in_term U e ≡ false → any_in_term S e ≡ any_in_term T e
+  pub term-agree : (S T : Vars) → Agree U S T → (e : Term) → any_in_term U e ≡ false → any_in_term S e ≡ any_in_term T e
   term-agree S T w (LongLit n) h = refl
   term-agree S T w (BoolLit b) h = refl
   term-agree S T w NullLit h = refl
@@ -46,7 +46,7 @@ module _ (U : Vars) where
       let u = or_parts (any_in_term U a) (any_in_term U b) h in
       or-same _ _ _ _ (term-agree S T w a u.0) (term-agree S T w b u.1)
 
-  argument-agree : (S T : Vars) → Agree U S T → (a : Argument) → any_in_argument U a ≡ false → any_in_argument S a ≡ any_in_argument T a
+  pub argument-agree : (S T : Vars) → Agree U S T → (a : Argument) → any_in_argument U a ≡ false → any_in_argument S a ≡ any_in_argument T a
   argument-agree S T w (Expression e) h = term-agree S T w e h
   argument-agree S T w (Consumed y) h = w y h
 

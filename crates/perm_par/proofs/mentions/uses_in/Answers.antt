@@ -1,0 +1,5 @@
+use Rattle.perm_par.proofs.UsesWalks.{outer-mentioned}
+use Rattle.perm_par.proofs.mentions.uses_in.Goals as goal
+
+pub returns : goal.returns
+returns c = outer-mentioned c.args.body.now c.uses_of_block.result c.args.block.now c.kept.ensures c.uses_of_block.ensures
