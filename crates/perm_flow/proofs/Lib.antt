@@ -1,0 +1,12 @@
+pub mod CallArguments
+pub mod CodeForms
+pub mod HiddenSets
+pub mod Holders
+pub mod LiveSets
+pub mod Lowest
+pub mod OperationTerms
+pub mod Questions
+pub mod SmallSets
+pub mod StatementForms
+pub mod Statements
+pub mod WholeMethods

@@ -1,0 +1,4 @@
+pub mod Lowest
+pub mod Parts
+pub mod Questions
+pub mod Walk
