@@ -4,10 +4,11 @@ use Rattle.perm_tree.specs.declared.errors.LexError.{LexError}
 use Rattle.perm_tree.specs.declared.errors.ParseError.{ParseError}
 use Rattle.perm_tree.specs.declared.errors.TableError.{TableError}
 use Rattle.perm_tree.specs.declared.errors.TableError.TheVariants.{DuplicateName, UnknownClass, NoMain, BadMain, TooMany, NoMemory}
+use Rattle.perm_tree.specs.declared.errors.TypeError.{TypeError}
 use Rattle.perm_tree.specs.declared.place.Place.{Place}
 use Rattle.perm_answer.specs.declared.Answer.{Answer}
-use Rattle.perm_answer.specs.declared.Answer.TheVariants.{Lex, Syntax, Table}
-use Rattle.perm_answer.specs.Answers.{lex_word_of, syntax_word_of, table_word_of, refusal_text, text_of}
+use Rattle.perm_answer.specs.declared.Answer.TheVariants.{Lex, Syntax, Table, Typing}
+use Rattle.perm_answer.specs.Answers.{lex_word_of, syntax_word_of, table_word_of, type_word_of, refusal_text, text_of}
 
 module _ (answer : Answer) (place : Place) (word : List ℕ) (room : ℕ) where
   -- the line of this word, behind that of its stage, has room
@@ -31,3 +32,6 @@ module _ (answer : Answer) (place : Place) (word : List ℕ) (room : ℕ) where
 
   pub table_room : (e : TableError) → answer ≡ Table e place → word ≡ table_word_of e → Fits (codes "table ") word → length (text_of answer) ≤ room
   table_room e is told fits = subst (λ a. length (text_of a) ≤ room) (sym is) (table_fits e (subst (Fits (codes "table ")) told fits))
+
+  pub type_room : (e : TypeError) → answer ≡ Typing e place → word ≡ type_word_of e.kind → Fits (codes "type ") word → length (text_of answer) ≤ room
+  type_room e is told fits = subst (λ a. length (text_of a) ≤ room) (sym is) (subst (Fits (codes "type ")) told fits)

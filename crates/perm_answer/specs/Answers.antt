@@ -7,9 +7,11 @@ use Rattle.perm_tree.specs.declared.errors.ParseError.{ParseError}
 use Rattle.perm_tree.specs.declared.errors.ParseError.TheVariants as syntactic
 use Rattle.perm_tree.specs.declared.errors.TableError.{TableError}
 use Rattle.perm_tree.specs.declared.errors.TableError.TheVariants as table
+use Rattle.perm_tree.specs.declared.errors.TypeKind.{TypeKind}
+use Rattle.perm_tree.specs.declared.errors.TypeKind.TheVariants as typing
 use Rattle.perm_tree.specs.declared.place.Place.{Place}
 use Rattle.perm_answer.specs.declared.Answer.{Answer}
-use Rattle.perm_answer.specs.declared.Answer.TheVariants.{Usage, ReadFault, TooLong, Lex, Syntax, Table, Done}
+use Rattle.perm_answer.specs.declared.Answer.TheVariants.{Usage, ReadFault, TooLong, Lex, Syntax, Table, Typing, Done}
 use Rattle.perm_answer.specs.declared.Which.{Which}
 use Rattle.perm_answer.specs.declared.Which.TheVariants.{Program, Input}
 
@@ -35,6 +37,19 @@ table_word_of table.NoMain = codes "NoMain"
 table_word_of (table.BadMain span) = codes "BadMain"
 table_word_of (table.TooMany span limit) = codes "TooMany"
 table_word_of table.NoMemory = []
+
+-- the word of a refusal of typing
+abbrev pub type_word_of : TypeKind → List ℕ
+type_word_of typing.UnknownName = codes "UnknownName"
+type_word_of typing.WrongKind = codes "WrongKind"
+type_word_of typing.Gone = codes "Gone"
+type_word_of typing.NeedsConsume = codes "NeedsConsume"
+type_word_of typing.NotAllowedThrough = codes "NotAllowedThrough"
+type_word_of typing.PermissionTooWeak = codes "PermissionTooWeak"
+type_word_of typing.Hidden = codes "Hidden"
+type_word_of typing.BadGive = codes "BadGive"
+type_word_of typing.ParShared = codes "ParShared"
+type_word_of typing.ParPermission = codes "ParPermission"
 
 -- want of memory is no refusal that is told
 abbrev pub IsTold : Answer → Type 0
@@ -82,6 +97,7 @@ text_of (Lex error place) = refusal_text (codes "lex ") (lex_word_of error) plac
 text_of (Syntax error place) = refusal_text (codes "syntax ") (syntax_word_of error) place
 text_of (Table table.NoMain place) = line (codes "table NoMain")
 text_of (Table error place) = refusal_text (codes "table ") (table_word_of error) place
+text_of (Typing error place) = refusal_text (codes "type ") (type_word_of error.kind) place
 text_of (Done returned run) = run_text run.printed returned
 
 -- the status of an answer
@@ -92,4 +108,5 @@ status (TooLong which) = 4
 status (Lex error place) = 10
 status (Syntax error place) = 11
 status (Table error place) = 12
+status (Typing error place) = 13
 status (Done returned run) = 0

@@ -12,8 +12,8 @@ mod words;
 
 use crate::room::room_of;
 use crate::text::{append, append_refusal, append_run};
-use crate::words::{lex_word, syntax_word, table_word};
-use perm_tree::errors::{LexError, NoMemory, ParseError, TableError};
+use crate::words::{lex_word, syntax_word, table_word, type_word};
+use perm_tree::errors::{LexError, NoMemory, ParseError, TableError, TypeError};
 use perm_tree::list::Numbers;
 use perm_tree::place::Place;
 use std::alloc::Global;
@@ -40,6 +40,7 @@ pub enum Answer {
     Lex(LexError, Place),
     Syntax(ParseError, Place),
     Table(TableError, Place),
+    Typing(TypeError, Place),
     Done(i64, RunText),
 }
 
@@ -74,6 +75,9 @@ pub fn fill(text: &mut Vec<u8>, answer: &Answer)
         }
         Answer::Table(TableError::NoMain, _) => append(text, b"table NoMain\n"),
         Answer::Table(error, place) => append_refusal(text, "table ", table_word(error), *place),
+        Answer::Typing(error, place) => {
+            append_refusal(text, "type ", type_word(error.kind), *place);
+        }
         Answer::Done(returned, run) => append_run(text, run.printed.as_slice(), *returned),
     }
 }
@@ -90,6 +94,7 @@ pub fn status_of(answer: &Answer) -> u8
         Answer::Lex(_, _) => 10,
         Answer::Syntax(_, _) => 11,
         Answer::Table(_, _) => 12,
+        Answer::Typing(_, _) => 13,
         Answer::Done(_, _) => 0,
     }
 }

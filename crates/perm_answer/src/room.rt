@@ -3,7 +3,7 @@
 ghost use Rattle.std.specs.Prelude.{◌≡◌, ◌≤◌, ℕ, List, length, IfSome};
 ghost use Rattle.perm_answer.specs.Answers.{refusal_text, run_text, text_of};
 
-use crate::words::{lex_word, syntax_word, table_word};
+use crate::words::{lex_word, syntax_word, table_word, type_word};
 use crate::{Answer, USAGE};
 use itoa::{Buffer, Integer};
 use perm_tree::place::Place;
@@ -24,6 +24,7 @@ pub fn room_of(answer: &Answer) -> Option<usize>
         Answer::Lex(error, place) => Some(refusal_room(lex_word(error), *place)),
         Answer::Syntax(error, place) => Some(refusal_room(syntax_word(error), *place)),
         Answer::Table(error, place) => Some(refusal_room(table_word(error), *place)),
+        Answer::Typing(error, place) => Some(refusal_room(type_word(error.kind), *place)),
         Answer::Done(returned, run) => run_room(run.printed.as_slice(), *returned),
     }
 }

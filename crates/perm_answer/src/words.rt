@@ -1,9 +1,9 @@
 //! The words of refusals.
 
 ghost use Rattle.std.specs.Prelude.{◌≡◌, ◌≤◌, ◌≢◌, length};
-ghost use Rattle.perm_answer.specs.Answers.{lex_word_of, syntax_word_of, table_word_of};
+ghost use Rattle.perm_answer.specs.Answers.{lex_word_of, syntax_word_of, table_word_of, type_word_of};
 
-use perm_tree::errors::{LexError, ParseError, TableError};
+use perm_tree::errors::{LexError, ParseError, TableError, TypeKind};
 
 pub fn lex_word(error: &LexError) -> &'static str
     ensures { result.now ≡ lex_word_of error.now }
@@ -36,5 +36,22 @@ pub fn table_word(error: &TableError) -> &'static str
         TableError::BadMain { .. } => "BadMain",
         TableError::TooMany { .. } => "TooMany",
         TableError::NoMemory => "",
+    }
+}
+
+pub fn type_word(kind: TypeKind) -> &'static str
+    ensures { result.now ≡ type_word_of kind }
+{
+    match kind {
+        TypeKind::UnknownName => "UnknownName",
+        TypeKind::WrongKind => "WrongKind",
+        TypeKind::Gone => "Gone",
+        TypeKind::NeedsConsume => "NeedsConsume",
+        TypeKind::NotAllowedThrough => "NotAllowedThrough",
+        TypeKind::PermissionTooWeak => "PermissionTooWeak",
+        TypeKind::Hidden => "Hidden",
+        TypeKind::BadGive => "BadGive",
+        TypeKind::ParShared => "ParShared",
+        TypeKind::ParPermission => "ParPermission",
     }
 }

@@ -4,13 +4,13 @@ use Rattle.std.specs.Prelude.{IsSomeAnd}
 use Rattle.perm_base.specs.Counts.{Rose}
 use Rattle.perm_base.specs.Files.{Files, HasFile, HasNoFile, WhereTold}
 use Rattle.perm_base.specs.Pieces.{appended}
-use Rattle.perm_answer.specs.declared.Answer.TheVariants.{Usage, ReadFault, TooLong, Lex, Syntax, Table, Done}
+use Rattle.perm_answer.specs.declared.Answer.TheVariants.{Usage, ReadFault, TooLong, Lex, Syntax, Table, Typing, Done}
 use Rattle.perm_answer.specs.declared.Which.TheVariants.{Program, Input}
 use Rattle.perm_top.specs.declared.run.Reply.{Reply}
 use Rattle.perm_top.specs.declared.run.Reply.TheVariants.{Told, Unbuilt}
 use Rattle.perm_top.specs.Causes.{IsCaused, IsPlain, IsWritten, most_bytes, reply_status, reply_text}
 use Rattle.perm_top.specs.Programs.{IsReplyTo}
-use Rattle.perm_top.proofs.OneReply.{one_reply}
+use Rattle.perm_top.proofs.OneReply.{one-reply}
 
 -- what holds of the bytes that are told holds of those of the file
 of_file : (told : Option Files) (path bytes : List ℕ) (P : List ℕ → Type 0) → HasFile told path bytes → WhereTold told path P → P bytes
@@ -33,6 +33,7 @@ module _ (told : Option Files) (before now : ℕ) (path bytes : List ℕ) (file 
   replies (Told (Lex e p)) c = (of_file told path bytes (λ bs. (length bs ≤ most_bytes) × IsReplyTo bs (Told (Lex e p))) file c).1
   replies (Told (Syntax e p)) c = (of_file told path bytes (λ bs. (length bs ≤ most_bytes) × IsReplyTo bs (Told (Syntax e p))) file c).1
   replies (Told (Table e p)) c = (of_file told path bytes (λ bs. (length bs ≤ most_bytes) × IsReplyTo bs (Told (Table e p))) file c).1
+  replies (Told (Typing e p)) c = (of_file told path bytes (λ bs. (length bs ≤ most_bytes) × IsReplyTo bs (Told (Typing e p))) file c).1
   replies (Told (Done n r)) c = (of_file told path bytes (λ bs. (length bs ≤ most_bytes) × IsReplyTo bs (Told (Done n r))) file c).1
   replies Unbuilt c = (of_file told path bytes (λ bs. (length bs ≤ most_bytes) × IsReplyTo bs Unbuilt) file c).1
 
@@ -44,5 +45,5 @@ pub complete_from : (told : Option Files) (before now : ℕ) (path : Option (Lis
 complete_from told before now path found reply old new sink_before sink_now text wanted given caused is words status (inr part) bytes other plain to no_fault no_part = absurd (no_part part.1)
 complete_from told before now path found reply old new sink_before sink_now text wanted given caused is words status (inl whole) bytes other plain to no_fault no_part =
     let here = subst (λ p. IsCaused told before now p found) plain.named caused in
-    let same = sym is ∙ one_reply bytes found other (replies told before now plain.name bytes plain.file plain.short no_fault found here) to in
+    let same = sym is ∙ one-reply bytes found other (replies told before now plain.name bytes plain.file plain.short no_fault found here) to in
     (whole.0 ∙ (status ∙ ap reply_status same), whole.1 ∙ (ap (λ t. appended old t) words ∙ ap (λ r. appended old (reply_text r)) same))

@@ -1,131 +1,101 @@
 -- A text has one reply.
-use Rattle.std.proofs.Common.{◌≡◌, ℕ, ℤ, List, [], None, Some, refl, sym, ap, subst, ◌∙◌}
-use Rattle.perm_tree.specs.declared.errors.LexError.{LexError}
-use Rattle.perm_tree.specs.declared.errors.ParseError.{ParseError}
-use Rattle.perm_tree.specs.declared.errors.TableError.{TableError}
+use Rattle.std.proofs.Common.{◌≡◌, ◌∙◌, ℕ, ℤ, List, [], inl, inr, refl, sym, ap, subst}
+use Rattle.std.specs.Prelude.{◌⊎◌}
+use Rattle.perm_tree.specs.declared.errors.Refusal.{Refusal}
+use Rattle.perm_tree.specs.declared.errors.Refusal.TheVariants as refusals
 use Rattle.perm_tree.specs.declared.place.Place.{Place}
-use Rattle.perm_tree.specs.declared.tokens.Token.{Token}
 use Rattle.perm_tree.specs.CodeOf.{code_of}
-use Rattle.perm_tree.specs.Names.{names_refusal}
-use Rattle.perm_tree.specs.Places.{Listing}
-use Rattle.perm_tree.specs.Resolves.{Resolves, resolved}
-use Rattle.perm_tree.specs.Scopes.{tables_of}
 use Rattle.perm_tree.specs.TextPlaces.{IsPlaceOf}
 use Rattle.perm_tree.specs.UnitTables.{Tables}
-use Rattle.perm_lex.specs.Lexes.{Lexes}
-use Rattle.perm_lex.proofs.Refusals.{one_lexing, one_cause, not_both}
-use Rattle.perm_parse.specs.Parses.{Parses, IsRefused}
-use Rattle.perm_parse.proofs.OneAnswer.{one-answer}
+use Rattle.perm_check.specs.Checks.{IsAcceptedOf}
+use Rattle.perm_check.proofs.OneCheck.{one-accepted, one-refusal, refused-apart}
 use Rattle.perm_meaning.specs.declared.End.TheVariants as ends
 use Rattle.perm_meaning.specs.Outcome.{Report, Ran, outcome}
-use Rattle.perm_step.specs.Straight.{IsStraight}
-use Rattle.perm_answer.specs.declared.Answer.TheVariants.{Usage, ReadFault, TooLong, Lex, Syntax, Table, Done}
+use Rattle.perm_answer.specs.declared.Answer.TheVariants.{Usage, ReadFault, TooLong, Lex, Syntax, Table, Typing, Done}
 use Rattle.perm_answer.specs.declared.RunText.{RunText}
 use Rattle.perm_top.specs.declared.run.Reply.{Reply}
 use Rattle.perm_top.specs.declared.run.Reply.TheVariants.{Told, Unbuilt}
-use Rattle.perm_top.specs.Programs.{IsProgramOf, IsUnitOf, IsLexical, IsSyntactic, IsOfNames, Runs, IsUnbuilt, IsReplyTo, default_heap, default_turns, lex_place, syntax_place, table_place}
+use Rattle.perm_top.specs.Programs.{IsRefusedAt, IsReplyOf, IsReplyTo, RunsUnit, default_heap, default_turns, refusal_answer, refusal_span}
+
+-- a byte has one place
+one-place : (text : List ℕ) (at : ℕ) (p q : Place) → IsPlaceOf text at p → IsPlaceOf text at q → p ≡ q
+one-place text at p q a b = let line = a.line ∙ sym b.line in let column = a.column ∙ sym b.column in λ i. record { line = line i; column = column i }
+
+-- the reply tells a refusal
+pub record TellsRefusal (text : List ℕ) (reply : Reply) : Type 0 where
+  pub refusal : Refusal
+  pub place : Place
+  pub refused : IsRefusedAt text refusal place
+  pub is : reply ≡ Told (refusal_answer refusal place)
+
+-- the reply is that to a unit which is accepted
+pub record RepliesToUnit (text : List ℕ) (reply : Reply) : Type 0 where
+  pub unit : Tables
+  pub checked : IsAcceptedOf text unit
+  pub of : IsReplyOf unit reply
+
+either-reply : (text : List ℕ) (reply : Reply) → IsReplyTo text reply → TellsRefusal text reply ⊎ RepliesToUnit text reply
+either-reply text (Told Usage) x = absurd x
+either-reply text (Told (ReadFault w)) x = absurd x
+either-reply text (Told (TooLong w)) x = absurd x
+either-reply text (Told (Lex e p)) (span, x) = inl (record { refusal = refusals.Lex e span; place = p; refused = x; is = refl })
+either-reply text (Told (Syntax e p)) (span, x) = inl (record { refusal = refusals.Parse e span; place = p; refused = x; is = refl })
+either-reply text (Told (Table e p)) (span, x) = inl (record { refusal = refusals.Table e span; place = p; refused = x; is = refl })
+either-reply text (Told (Typing e p)) x = inl (record { refusal = refusals.Typing e; place = p; refused = x; is = refl })
+either-reply text (Told (Done n r)) x = inr (record { unit = x.unit; checked = x.checked; of = x.run })
+either-reply text Unbuilt x = inr (record { unit = x.unit; checked = x.checked; of = x.other })
+
+-- a unit's run gives back one number and prints one list
+one-run : (u : Tables) (n m : ℤ) (r q : RunText) → RunsUnit u n r.printed → RunsUnit u m q.printed → Told (Done n r) ≡ Told (Done m q)
+one-run u n m r q a b =
+    let ran : Ran a.report ≡ Ran b.report = sym a.ran ∙ b.ran in
+    let report : a.report ≡ b.report = cc ran in
+    let done : ends.Done n ≡ ends.Done m = sym a.done ∙ (ap (λ (z : Report). z.ending) report ∙ b.done) in
+    let number : n ≡ m = cc done in
+    let printed = sym a.prints ∙ (ap (λ (z : Report). z.printed) report ∙ b.prints) in
+    λ i. Told (Done (number i) (record { printed = printed i }))
+
+-- a unit has no two replies
+one-of-unit : (u : Tables) (a b : Reply) → IsReplyOf u a → IsReplyOf u b → a ≡ b
+one-of-unit u (Told Usage) b x y = absurd x
+one-of-unit u (Told (ReadFault w)) b x y = absurd x
+one-of-unit u (Told (TooLong w)) b x y = absurd x
+one-of-unit u (Told (Lex e p)) b x y = absurd x
+one-of-unit u (Told (Syntax e p)) b x y = absurd x
+one-of-unit u (Told (Table e p)) b x y = absurd x
+one-of-unit u (Told (Typing e p)) b x y = absurd x
+one-of-unit u a (Told Usage) x y = absurd y
+one-of-unit u a (Told (ReadFault w)) x y = absurd y
+one-of-unit u a (Told (TooLong w)) x y = absurd y
+one-of-unit u a (Told (Lex e p)) x y = absurd y
+one-of-unit u a (Told (Syntax e p)) x y = absurd y
+one-of-unit u a (Told (Table e p)) x y = absurd y
+one-of-unit u a (Told (Typing e p)) x y = absurd y
+one-of-unit u (Told (Done n r)) (Told (Done m q)) x y = one-run u n m r q x y
+one-of-unit u (Told (Done n r)) Unbuilt x y = absurd (y x.straight)
+one-of-unit u Unbuilt (Told (Done m q)) x y = absurd (x y.straight)
+one-of-unit u Unbuilt Unbuilt x y = refl
 
 module _ (text : List ℕ) where
-  -- a byte has one place
-  one_place : (at : ℕ) (p q : Place) → IsPlaceOf text at p → IsPlaceOf text at q → p ≡ q
-  one_place at p q a b = let line = a.line ∙ sym b.line in let column = a.column ∙ sym b.column in λ i. record { line = line i; column = column i }
+  one-told : (a b : Reply) → TellsRefusal text a → TellsRefusal text b → a ≡ b
+  one-told a b x y =
+      let same = one-refusal text x.refusal y.refusal x.refused.refused y.refused.refused in
+      let there = subst (λ (r : Refusal). IsPlaceOf text (refusal_span r).start x.place) same x.refused.at in
+      let placed = one-place text (refusal_span y.refusal).start x.place y.place there y.refused.at in
+      x.is ∙ ((λ i. Told (refusal_answer (same i) (placed i))) ∙ sym y.is)
 
-  -- ---------- one program, one unit ----------
-  one_program : (p q : Listing) → IsProgramOf text p → IsProgramOf text q → p ≡ q
-  one_program p q a b =
-      (one-answer text a.tokens).programs p q a.parses (subst (λ ts. Parses text ts q) (one_lexing text b.tokens a.tokens b.lexes a.lexes) b.parses)
+  one-unit : (a b : Reply) → RepliesToUnit text a → RepliesToUnit text b → a ≡ b
+  one-unit a b x y = one-of-unit y.unit a b (subst (λ (u : Tables). IsReplyOf u a) (one-accepted text x.unit y.unit x.checked y.checked) x.of) y.of
 
-  -- the unit of a program
-  abbrev unit_of : Listing → Tables
-  unit_of p = record { program = resolved p; tables = tables_of (resolved p) }
-
-  is_unit : (p : Listing) (u : Tables) → Resolves p u → u ≡ unit_of p
-  is_unit p u r = λ i. record { program = r.program i; tables = r.tables i }
-
-  one_unit : (u v : Tables) → IsUnitOf text u → IsUnitOf text v → u ≡ v
-  one_unit u v a b = is_unit a.program u a.resolves ∙ (ap unit_of (one_program a.program b.program a.reads b.reads) ∙ sym (is_unit b.program v b.resolves))
-
-  -- ---------- refusals of one stage ----------
-  one_lexical : (e f : LexError) (p q : Place) → IsLexical text e p → IsLexical text f q → Told (Lex e p) ≡ Told (Lex f q)
-  one_lexical e f p q a b =
-      let same = one_cause text e f a.refused b.refused in
-      let placed = one_place (lex_place f) p q (subst (λ x. IsPlaceOf text (lex_place x) p) same a.at) b.at in
-      λ i. Told (Lex (same i) (placed i))
-
-  one_syntactic : (e f : ParseError) (p q : Place) → IsSyntactic text e p → IsSyntactic text f q → Told (Syntax e p) ≡ Told (Syntax f q)
-  one_syntactic e f p q a b =
-      let tokens = one_lexing text b.tokens a.tokens b.lexes a.lexes in
-      let same = (one-answer text a.tokens).refusals e f a.refused (subst (λ ts. IsRefused ts f) tokens b.refused) in
-      let there = subst (λ ts. IsPlaceOf text (syntax_place text ts f) q) tokens b.at in
-      let placed = one_place (syntax_place text a.tokens f) p q (subst (λ x. IsPlaceOf text (syntax_place text a.tokens x) p) same a.at) there in
-      λ i. Told (Syntax (same i) (placed i))
-
-  one_of_names : (e f : TableError) (p q : Place) → IsOfNames text e p → IsOfNames text f q → Told (Table e p) ≡ Told (Table f q)
-  one_of_names e f p q a b =
-      let program = one_program a.program b.program a.reads b.reads in
-      let refused : Some e ≡ Some f = sym a.refused ∙ (ap names_refusal program ∙ b.refused) in
-      let same : e ≡ f = cc refused in
-      let placed = one_place (table_place f) p q (subst (λ x. IsPlaceOf text (table_place x) p) same a.at) b.at in
-      λ i. Told (Table (same i) (placed i))
-
-  -- ---------- stages are apart ----------
-  lexical_apart : (e : LexError) (p : Place) (tokens : List Token) → IsLexical text e p → Lexes text tokens → ⊥
-  lexical_apart e p tokens a lexes = not_both text tokens e lexes a.refused
-
-  syntactic_apart : (e : ParseError) (p : Place) (program : Listing) → IsSyntactic text e p → IsProgramOf text program → ⊥
-  syntactic_apart e p program a b =
-      (one-answer text a.tokens).apart program e (subst (λ ts. Parses text ts program) (one_lexing text b.tokens a.tokens b.lexes a.lexes) b.parses) a.refused
-
-  names_apart : (e : TableError) (p : Place) (unit : Tables) → IsOfNames text e p → IsUnitOf text unit → ⊥
-  names_apart e p unit a b =
-      let program = one_program a.program b.program a.reads b.reads in
-      let clash : Some e ≡ None = sym a.refused ∙ (ap names_refusal program ∙ b.resolves.accepted) in
-      absurd (let r : ⊥ = cc clash in r)
-
-  straight_apart : (unit : Tables) → IsUnitOf text unit → IsStraight unit → IsUnbuilt text → ⊥
-  straight_apart unit reads straight b = b.other (subst IsStraight (one_unit unit b.unit reads b.reads) straight)
-
-  -- ---------- one run ----------
-  one_run : (n m : ℤ) (r q : RunText) → Runs text n r.printed → Runs text m q.printed → Told (Done n r) ≡ Told (Done m q)
-  one_run n m r q a b =
-      let unit = one_unit a.unit b.unit a.reads b.reads in
-      let ran : Ran a.run.report ≡ Ran b.run.report = sym a.run.ran ∙ (ap (λ u. outcome (code_of u) [] default_turns default_heap) unit ∙ b.run.ran) in
-      let report : a.run.report ≡ b.run.report = cc ran in
-      let done : ends.Done n ≡ ends.Done m = sym a.run.done ∙ (ap (λ (z : Report). z.ending) report ∙ b.run.done) in
-      let number : n ≡ m = cc done in
-      let printed = sym a.run.prints ∙ (ap (λ (z : Report). z.printed) report ∙ b.run.prints) in
-      λ i. Told (Done (number i) (record { printed = printed i }))
+  apart : (a b : Reply) → TellsRefusal text a → RepliesToUnit text b → ⊥
+  apart a b x y = refused-apart text x.refusal y.unit x.refused.refused y.checked
 
   -- a text has no two replies
-  pub one_reply : (a b : Reply) → IsReplyTo text a → IsReplyTo text b → a ≡ b
-  one_reply (Told Usage) b x y = absurd x
-  one_reply (Told (ReadFault w)) b x y = absurd x
-  one_reply (Told (TooLong w)) b x y = absurd x
-  one_reply a (Told Usage) x y = absurd y
-  one_reply a (Told (ReadFault w)) x y = absurd y
-  one_reply a (Told (TooLong w)) x y = absurd y
-  one_reply (Told (Lex e p)) (Told (Lex f q)) x y = one_lexical e f p q x y
-  one_reply (Told (Lex e p)) (Told (Syntax f q)) x y = absurd (lexical_apart e p y.tokens x y.lexes)
-  one_reply (Told (Lex e p)) (Told (Table f q)) x y = absurd (lexical_apart e p y.reads.tokens x y.reads.lexes)
-  one_reply (Told (Lex e p)) (Told (Done m q)) x y = absurd (lexical_apart e p y.reads.reads.tokens x y.reads.reads.lexes)
-  one_reply (Told (Lex e p)) Unbuilt x y = absurd (lexical_apart e p y.reads.reads.tokens x y.reads.reads.lexes)
-  one_reply (Told (Syntax e p)) (Told (Lex f q)) x y = absurd (lexical_apart f q x.tokens y x.lexes)
-  one_reply (Told (Syntax e p)) (Told (Syntax f q)) x y = one_syntactic e f p q x y
-  one_reply (Told (Syntax e p)) (Told (Table f q)) x y = absurd (syntactic_apart e p y.program x y.reads)
-  one_reply (Told (Syntax e p)) (Told (Done m q)) x y = absurd (syntactic_apart e p y.reads.program x y.reads.reads)
-  one_reply (Told (Syntax e p)) Unbuilt x y = absurd (syntactic_apart e p y.reads.program x y.reads.reads)
-  one_reply (Told (Table e p)) (Told (Lex f q)) x y = absurd (lexical_apart f q x.reads.tokens y x.reads.lexes)
-  one_reply (Told (Table e p)) (Told (Syntax f q)) x y = absurd (syntactic_apart f q x.program y x.reads)
-  one_reply (Told (Table e p)) (Told (Table f q)) x y = one_of_names e f p q x y
-  one_reply (Told (Table e p)) (Told (Done m q)) x y = absurd (names_apart e p y.unit x y.reads)
-  one_reply (Told (Table e p)) Unbuilt x y = absurd (names_apart e p y.unit x y.reads)
-  one_reply (Told (Done n r)) (Told (Lex f q)) x y = absurd (lexical_apart f q x.reads.reads.tokens y x.reads.reads.lexes)
-  one_reply (Told (Done n r)) (Told (Syntax f q)) x y = absurd (syntactic_apart f q x.reads.program y x.reads.reads)
-  one_reply (Told (Done n r)) (Told (Table f q)) x y = absurd (names_apart f q x.unit y x.reads)
-  one_reply (Told (Done n r)) (Told (Done m q)) x y = one_run n m r q x y
-  one_reply (Told (Done n r)) Unbuilt x y = absurd (straight_apart x.unit x.reads x.run.straight y)
-  one_reply Unbuilt (Told (Lex f q)) x y = absurd (lexical_apart f q x.reads.reads.tokens y x.reads.reads.lexes)
-  one_reply Unbuilt (Told (Syntax f q)) x y = absurd (syntactic_apart f q x.reads.program y x.reads.reads)
-  one_reply Unbuilt (Told (Table f q)) x y = absurd (names_apart f q x.unit y x.reads)
-  one_reply Unbuilt (Told (Done m q)) x y = absurd (straight_apart y.unit y.reads y.run.straight x)
-  one_reply Unbuilt Unbuilt x y = refl
+  pub one-reply : (a b : Reply) → IsReplyTo text a → IsReplyTo text b → a ≡ b
+  one-reply a b x y = go (either-reply text a x) (either-reply text b y)
+    where
+      go : TellsRefusal text a ⊎ RepliesToUnit text a → TellsRefusal text b ⊎ RepliesToUnit text b → a ≡ b
+      go (inl p) (inl q) = one-told a b p q
+      go (inl p) (inr q) = absurd (apart a b p q)
+      go (inr p) (inl q) = absurd (apart b a q p)
+      go (inr p) (inr q) = one-unit a b p q

@@ -2,6 +2,7 @@
 use Rattle.std.proofs.Common.{◌≡◌, ℕ, ℤ, Bool, true, false, List, [], Result, Ok, Err, IfOk, subst, ◌∙◌}
 use Rattle.perm_tree.specs.CodeOf.{code_of}
 use Rattle.perm_tree.specs.UnitTables.{Tables}
+use Rattle.perm_check.specs.Checks.{IsAcceptedOf}
 use Rattle.perm_meaning.specs.declared.End.TheVariants as ends
 use Rattle.perm_meaning.specs.declared.Outcome.{Outcome}
 use Rattle.perm_meaning.specs.Outcome.{outcome}
@@ -9,10 +10,10 @@ use Rattle.perm_step.specs.Deciding.{IsWhether}
 use Rattle.perm_step.specs.Straight.{IsStraight}
 use Rattle.perm_step.specs.Tells.{Tells}
 use Rattle.perm_step.proofs.StraightUnits.{straight_done}
-use Rattle.perm_answer.specs.declared.Answer.TheVariants.{Usage, ReadFault, TooLong, Lex, Syntax, Table, Done}
+use Rattle.perm_answer.specs.declared.Answer.TheVariants.{Usage, ReadFault, TooLong, Lex, Syntax, Table, Typing, Done}
 use Rattle.perm_top.specs.declared.run.Reply.{Reply}
 use Rattle.perm_top.specs.declared.run.Reply.TheVariants.{Told, Unbuilt}
-use Rattle.perm_top.specs.Programs.{HasText, IsReplyOf, IsReplyTo, IsUnitOf, default_heap, default_turns}
+use Rattle.perm_top.specs.Programs.{HasText, IsReplyOf, IsReplyTo, default_heap, default_turns}
 
 -- ---------- answers of calls ----------
 -- what is answered is also so
@@ -33,15 +34,16 @@ gives_back u told straight tells =
     (done.1, (subst (λ o. Tells o told) done.2 tells).ending ∙ done.3)
 
 -- the reply to the unit of a text is the reply to the text
-pub reply_to_text : (text : List ℕ) (u : Tables) (reply : Reply) → IsUnitOf text u → IsReplyOf u reply → IsReplyTo text reply
+pub reply_to_text : (text : List ℕ) (u : Tables) (reply : Reply) → IsAcceptedOf text u → IsReplyOf u reply → IsReplyTo text reply
 reply_to_text text u (Told Usage) reads r = absurd r
 reply_to_text text u (Told (ReadFault w)) reads r = absurd r
 reply_to_text text u (Told (TooLong w)) reads r = absurd r
 reply_to_text text u (Told (Lex e p)) reads r = absurd r
 reply_to_text text u (Told (Syntax e p)) reads r = absurd r
 reply_to_text text u (Told (Table e p)) reads r = absurd r
-reply_to_text text u (Told (Done n q)) reads r = record { unit = u; reads = reads; run = r }
-reply_to_text text u Unbuilt reads r = record { unit = u; reads = reads; other = r }
+reply_to_text text u (Told (Typing e p)) reads r = absurd r
+reply_to_text text u (Told (Done n q)) reads r = record { unit = u; checked = reads; run = r }
+reply_to_text text u Unbuilt reads r = record { unit = u; checked = reads; other = r }
 
 pub unit_has_text : (u : Tables) (reply : Reply) → IsReplyOf u reply → HasText reply
 unit_has_text u (Told Usage) r = absurd r
@@ -50,5 +52,6 @@ unit_has_text u (Told (TooLong w)) r = absurd r
 unit_has_text u (Told (Lex e p)) r = absurd r
 unit_has_text u (Told (Syntax e p)) r = absurd r
 unit_has_text u (Told (Table e p)) r = absurd r
+unit_has_text u (Told (Typing e p)) r = absurd r
 unit_has_text u (Told (Done n q)) r = tt
 unit_has_text u Unbuilt r = tt

@@ -8,20 +8,19 @@ ghost use Rattle.perm_tree.specs.TextPlaces.{IsPlaceOf};
 ghost use Rattle.perm_answer.specs.declared.Answer.{Answer};
 ghost use Rattle.perm_top.specs.declared.run.Reply.{Reply};
 ghost use Rattle.perm_top.specs.Causes.{most_bytes, named_path, is_option, reply_status, reply_text, IsCaused, IsPlain, IsWritten};
-ghost use Rattle.perm_top.specs.Programs.{lex_place, syntax_place, table_place, HasText, IsReplyOf, IsReplyTo, IsRefusal, IsUnitOf};
+ghost use Rattle.perm_check.specs.Checks.{IsAcceptedOf, IsFaultOf, IsOfText, IsRefusalOf};
+ghost use Rattle.perm_top.specs.Programs.{refusal_answer, refusal_span, HasText, IsAnswerTo, IsReplyOf, IsReplyTo};
+ghost use Rattle.perm_answer.specs.Answers.{IsTold};
 
 use perm_answer::{Answer, RunText, Which, fill, status_of, text_room};
 use perm_base::{ReadFault, Shelf, Sink, read_text, write_all};
-use perm_lex::lex;
+use perm_check::check_text;
 use perm_meaning::{End, Outcome};
-use perm_parse::parse;
+use perm_rules::Checked;
 use perm_step::{is_straight, run_alone};
-use perm_table::resolve;
-use perm_tree::errors::{LexError, NoMemory, ParseError, TableError};
+use perm_tree::errors::{CheckFault, NoMemory, Refusal};
 use perm_tree::list::Numbers;
 use perm_tree::place::{Place, place_of};
-use perm_tree::tokens::Token;
-use perm_tree::unit::Unit;
 use std::alloc::Global;
 
 /// The most bytes of a program's text.
@@ -43,13 +42,6 @@ const UNBUILT: u8 = 9;
 pub enum Reply {
     Told(Answer),
     Unbuilt,
-}
-
-/// Why a text has no unit.
-#[derive(Drop)]
-enum Stop {
-    Refused(Answer),
-    NoMemory,
 }
 
 /// Does what the command line's words ask for, and answers the status. The words are those behind the program's name.
@@ -137,63 +129,52 @@ fn begins_option(word: &[u8]) -> bool
     }
 }
 
-/// Reads a program's text and runs it without input. A run holds neither the text nor its tokens.
+/// Checks a program's text and runs it without input. A run doesn't hold the text.
 fn run_text(alloc: Global, text: Vec<u8>) -> Result<Reply, NoMemory>
     requires { vec_len text ≤ 1048576 }
     ensures reply { IfOk result (IsReplyTo text.items) }
     ensures told { IfOk result HasText }
 {
-    match unit_of(alloc, text) {
-        Ok(unit) => run_unit(alloc, &unit),
-        Err(Stop::Refused(answer)) => Ok(Reply::Told(answer)),
-        Err(Stop::NoMemory) => Err(NoMemory),
+    match checked_of(alloc, text)? {
+        Ok(checked) => run_unit(alloc, &checked),
+        Err(answer) => Ok(Reply::Told(answer)),
     }
 }
 
-/// The unit of a text. The text and its tokens are dropped.
-fn unit_of(alloc: Global, text: Vec<u8>) -> Result<Unit, Stop>
+/// The checked unit of a text, or the answer that refuses it. The text is dropped.
+fn checked_of(alloc: Global, text: Vec<u8>) -> Result<Result<Checked, Answer>, NoMemory>
     requires { vec_len text ≤ 1048576 }
-    ensures unit { IfOk result (IsUnitOf text.items) }
-    ensures refused { IfErr result (IsRefusal text.items) }
+    ensures accepted { IfOk result (λ found. IfOk found (IsAcceptedOf text.items)) }
+    ensures refused { IfOk result (λ found. IfErr found (λ answer. IsAnswerTo text.items answer × IsTold answer)) }
 {
-    resolve_text(alloc, text.as_slice())
+    match check_text(alloc, text.as_slice()) {
+        Ok(checked) => Ok(Ok(checked)),
+        Err(CheckFault::Refused(refusal)) => Ok(Err(answer_to(text.as_slice(), refusal))),
+        Err(CheckFault::NoMemory) => Err(NoMemory),
+    }
 }
 
-fn resolve_text(alloc: Global, text: &[u8]) -> Result<Unit, Stop>
-    requires { length text.now ≤ 1048576 }
-    ensures unit { IfOk result (IsUnitOf text.now) }
-    ensures refused { IfErr result (IsRefusal text.now) }
+/// The answer that tells a refusal of a text.
+fn answer_to(text: &[u8], refusal: Refusal) -> Answer
+    requires short { length text.now ≤ 1048576 }
+    requires refused { IsRefusalOf text.now refusal }
+    requires told { IsOfText refusal }
+    ensures answer { IsAnswerTo text.now result }
+    ensures told { IsTold result }
 {
-    let tokens = match lex(alloc, text) {
-        Ok(tokens) => tokens,
-        Err(LexError::NoMemory) => return Err(Stop::NoMemory),
-        Err(error) => {
-            let place = lexical_place(text, error);
-            return Err(Stop::Refused(Answer::Lex(error, place)));
-        }
-    };
-    let program = match parse(alloc, text, tokens.as_slice()) {
-        Ok(program) => program,
-        Err(ParseError::NoMemory) => return Err(Stop::NoMemory),
-        Err(error) => {
-            let place = token_place(text, tokens.as_slice(), error);
-            return Err(Stop::Refused(Answer::Syntax(error, place)));
-        }
-    };
-    match resolve(alloc, program) {
-        Ok(unit) => Ok(unit),
-        Err(TableError::NoMemory) => Err(Stop::NoMemory),
-        Err(error) => {
-            let place = name_place(text, error);
-            Err(Stop::Refused(Answer::Table(error, place)))
-        }
+    match refusal {
+        Refusal::Lex(error, span) => Answer::Lex(error, place_in(text, span.start)),
+        Refusal::Parse(error, span) => Answer::Syntax(error, place_in(text, span.start)),
+        Refusal::Table(error, span) => Answer::Table(error, place_in(text, span.start)),
+        Refusal::Typing(error) => Answer::Typing(error, place_in(text, error.span.start)),
     }
 }
 
 /// Runs a unit without input, where it is straight.
-fn run_unit(alloc: Global, unit: &Unit) -> Result<Reply, NoMemory>
-    ensures ran { IfOk result (IsReplyOf unit.now) }
+fn run_unit(alloc: Global, checked: &Checked) -> Result<Reply, NoMemory>
+    ensures ran { IfOk result (IsReplyOf checked.now) }
 {
+    let unit = checked.unit();
     if !is_straight(alloc, unit)? {
         return Ok(Reply::Unbuilt);
     }
@@ -225,49 +206,4 @@ fn place_in(text: &[u8], at: u32) -> Place
     ensures { IsPlaceOf text.now at result }
 {
     place_of(text, at.min(text.len() as u32))
-}
-
-/// Where a lexical refusal stands.
-fn lexical_place(text: &[u8], error: LexError) -> Place
-    requires { length text.now ≤ 1048576 }
-    ensures { IsPlaceOf text.now (lex_place error) result }
-{
-    let at = match error {
-        LexError::BadByte { at } | LexError::UnclosedComment { at } => at,
-        LexError::NumberTooLarge { span } => span.start,
-        LexError::NoMemory => 0,
-    };
-    place_in(text, at)
-}
-
-/// Where a syntactic refusal stands.
-fn token_place(text: &[u8], tokens: &[Token], error: ParseError) -> Place
-    requires { length text.now ≤ 1048576 }
-    ensures { IsPlaceOf text.now (syntax_place text.now tokens.now error) result }
-{
-    let at = match error {
-        ParseError::Unexpected { token } | ParseError::TooDeep { token } => {
-            match tokens.get(token as usize) {
-                Some(token) => token.span.start,
-                None => text.len() as u32,
-            }
-        }
-        ParseError::NoMemory => 0,
-    };
-    place_in(text, at)
-}
-
-/// Where a refusal of names stands.
-fn name_place(text: &[u8], error: TableError) -> Place
-    requires { length text.now ≤ 1048576 }
-    ensures { IsPlaceOf text.now (table_place error) result }
-{
-    let at = match error {
-        TableError::DuplicateName { span }
-        | TableError::UnknownClass { span }
-        | TableError::BadMain { span }
-        | TableError::TooMany { span, .. } => span.start,
-        TableError::NoMain | TableError::NoMemory => 0,
-    };
-    place_in(text, at)
 }

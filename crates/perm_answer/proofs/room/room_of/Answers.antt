@@ -1,5 +1,5 @@
 use Rattle.std.proofs.Common.{codes, arith}
-use Rattle.perm_answer.proofs.Refused.{lex_room, syntax_room, table_room}
+use Rattle.perm_answer.proofs.Refused.{lex_room, syntax_room, table_room, type_room}
 use Rattle.perm_answer.proofs.room.room_of.Goals as goal
 
 pub returns-in-Lex : goal.returns-in-Lex
@@ -16,3 +16,8 @@ pub returns-in-Table : goal.returns-in-Table
 returns-in-Table c =
     table_room c.args.answer.now c.in-Table.place c.table_word.result.now c.refusal_room-in-Table.result c.in-Table.error c.in-Table.is c.table_word.ensures
     (c.refusal_room-in-Table.ensures (codes "table ") (omega arith))
+
+pub returns-in-Typing : goal.returns-in-Typing
+returns-in-Typing c =
+    type_room c.args.answer.now c.in-Typing.place c.type_word.result.now c.refusal_room-in-Typing.result c.in-Typing.error c.in-Typing.is c.type_word.ensures
+    (c.refusal_room-in-Typing.ensures (codes "type ") (omega arith))

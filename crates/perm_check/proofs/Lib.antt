@@ -1,0 +1,4 @@
+pub mod FewMethods
+pub mod OneCheck
+pub mod RefusedBytes
+pub mod UnitRefusals
