@@ -7,3 +7,4 @@ pub mod LeafOperations
 pub mod TwoEvents
 pub mod NamesToCome
 pub mod Conflicts
+pub mod OnWords

@@ -4,16 +4,22 @@ use Rattle.std.specs.Prelude.{◌⊎◌, ℤ, option_and_then}
 use Rattle.perm_tree.specs.Code.{Routine, UnitCode}
 use Rattle.perm_meaning.specs.Machine.{Leaf, Fork, Way, Here, GoL, GoR, Final, Stage, Over, Due, final, stage, over, leaf_op, if_both_over}
 use Rattle.perm_meaning.specs.Custody.{Moves}
+use Rattle.perm_meaning.specs.Names.{Path, Name, OnLeft, OnRight}
+use Rattle.perm_meaning.specs.Objects.{Objects}
 use Rattle.perm_meaning.specs.Effects.{Tick}
 use Rattle.perm_meaning.specs.Literals.{UnitFits}
 use Rattle.perm_meaning.specs.NamedHeap as named
 use Rattle.perm_meaning.specs.NamedHeap.{Op, Held, Task, State, memory}
 use Rattle.perm_meaning.specs.Relate.{OptionR, FinalR, TaskR}
-use Rattle.perm_meaning.specs.Shows.{Bases, Grows, IsWordOf, AnyMark, IsShown, IsShownBy}
+use Rattle.perm_meaning.specs.Shows.{Bases, Grows, IsWordOf, AnyMark, IsAskOf, IsShown, IsShownBy}
 use Rattle.perm_meaning.specs.Steps.{next_state, asked, within}
 use Rattle.perm_meaning.specs.WordHeap as worded
 use Rattle.perm_meaning.specs.WordHeap.{Ask}
+use Rattle.perm_meaning.proofs.OnWords.Kept.{TaskKept}
 use Rattle.perm_meaning.proofs.OnWords.KeptEvents.{IsKept, keeps-step}
+use Rattle.perm_meaning.proofs.OnWords.NewObjects.{Asks}
+use Rattle.perm_meaning.proofs.OnWords.Simulate.{AllFit, same}
+use Rattle.perm_meaning.proofs.OnWords.TurnsAlike.{IsShort, alike}
 use Rattle.perm_meaning.proofs.Leads.{some-inj, none-some}
 use Rattle.perm_meaning.proofs.OnWords.Moved.{routine-fits}
 use Rattle.perm_meaning.proofs.OnWords.OpeningShown.{opening_bases, opening-kept, opening-shown}
@@ -45,6 +51,20 @@ module _ (u : UnitCode) (limit : ℕ) where
       let k = kept whole.fits ws (opening_state u input turns r) s first e in
       let x = words-step Moves u whole.fits (within limit) (within-small limit is.bases) b s s' t w k shown event in
       record { after = x.1; event = x.2; bases = x.0; grown = x.3; shown = x.4 }
+
+  -- each leaf of what is kept has code with numbers of 64 bits
+  leaves-short : (q : Path) (h : Objects Name) (t : Task) → TaskKept q h t → AllFit (core u) (machine u) IsWordOf (λ b. AnyMark) (Asks u) Grows IsShort t
+  leaves-short q h (Leaf b) k = k.code
+  leaves-short q h (Fork b p l r) k = (leaves-short ((k.1.0, OnLeft) ∷ q) h l k.1.2, leaves-short ((k.1.0, OnRight) ∷ q) h r k.1.3)
+
+  -- what a node asks on words is what it asks on names
+  pub asks-alike : (input : List ℤ) (turns : ℕ) (r : Routine) → IsWhole u → OpensOnWords u limit input r → (ws : List Way) (s : State) (b : Bases) (t : worded.State) (w : Way) (o : Op)
+      → runs u limit ws (opening_state u input turns r) ≡ Some s → IsShownBy b s t → look u w s.task ≡ Some o → (p : Ask) × (word_core.look u w t.task ≡ Some p) × IsAskOf b o p
+  asks-alike input turns r whole is ws s b t w o e shown asks =
+      let first = opening-kept u limit input turns r (routine-fits u.routines u.run r whole.fits is.opens.run) in
+      let k = kept whole.fits ws (opening_state u input turns r) s first e in
+      let x = same (core u) (machine u) IsWordOf (λ b. AnyMark) (Asks u) Grows IsShort (alike Moves u) b w s.task t.task o (leaves-short [] s.heap.objects s.task k) shown.task asks in
+      (x.op, x.looks, x.asks.0)
 
   -- from a state that is shown
   run-shown : (uf : UnitFits u) (small : limit < 2 ^ 32) (ws : List Way) (b : Bases) (s next : State) (t : worded.State) → IsKept Moves u uf (within limit) s → IsShownBy b s t → runs u limit ws s ≡ Some next

@@ -31,12 +31,13 @@ module _ (u : UnitCode) (limit : ℕ) (input : List ℤ) (turns : ℕ) where
     run = runs-append (word_core.step u limit) is.events (w ∷ []) (worded.opening_state u input turns is.first) t is.run ∙ then-at (word_core.step u limit t w) (λ z. Some z) t' e;
   }
 
-  shown : (t : worded.State) → (is : IsReached u limit input turns t) → Shows u limit input turns is.first is.checked is.opens t
-  shown t is = shows-runs u limit input turns is.first is.checked is.opens is.events (worded.opening_state u input turns is.first) t (shows-start u limit input turns is.first is.checked is.opens) is.run
+  -- what such a state shows is reached on names
+  pub reached-shown : (t : worded.State) → (is : IsReached u limit input turns t) → Shows u limit input turns is.first is.checked is.opens t
+  reached-shown t is = shows-runs u limit input turns is.first is.checked is.opens is.events (worded.opening_state u input turns is.first) t (shows-start u limit input turns is.first is.checked is.opens) is.run
 
   pub picture-shown : ShowsPicture u limit input turns
   picture-shown t is =
-      let x = shown t is in
+      let x = reached-shown t is in
       let p = reaches-picture u limit input turns (λ n. keeps-picture u n) is.first x.events x.state is.checked is.opens.opens x.run in
       (p.0, x.state, p.1, (x.bases, x.shown))
 
