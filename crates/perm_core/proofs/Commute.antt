@@ -8,3 +8,4 @@ pub mod TwoEvents
 pub mod NamesToCome
 pub mod Conflicts
 pub mod OnWords
+pub mod WordConflicts

@@ -12,7 +12,7 @@ use Rattle.perm_meaning.specs.NamedHeap as named
 use Rattle.perm_meaning.specs.NamedHeap.{Op, Held, Task, State, memory}
 use Rattle.perm_meaning.specs.Relate.{OptionR, FinalR, TaskR}
 use Rattle.perm_meaning.specs.Shows.{Bases, Grows, IsWordOf, AnyMark, IsAskOf, IsShown, IsShownBy}
-use Rattle.perm_meaning.specs.Steps.{next_state, asked, within}
+use Rattle.perm_meaning.specs.Steps.{Missing, next_state, answered, asked, within}
 use Rattle.perm_meaning.specs.WordHeap as worded
 use Rattle.perm_meaning.specs.WordHeap.{Ask}
 use Rattle.perm_meaning.proofs.OnWords.Kept.{TaskKept}
@@ -127,6 +127,23 @@ module _ (u : UnitCode) (limit : ℕ) where
       by_look : (o : Option Ask) → word_core.look u w t.task ≡ o → asked (machine u) worded.memory (within limit) t w o ≡ Some t' → (p : Ask) × (word_core.look u w t.task ≡ Some p)
       by_look None q e = none-some e
       by_look (Some p) q e = (p, q)
+
+  -- a node asks this on words where it asks the like on names, and there no field is missing
+  pub record AsksOnNames (s : State) (b : Bases) (w : Way) (p : Ask) : Type 0 where
+    pub op : Op
+    pub looks : look u w s.task ≡ Some op
+    pub is : IsAskOf b op p
+    pub there : named.find (within limit) op s.heap ≡ Missing → ⊥
+
+  pub asks-on-names : (input : List ℤ) (turns : ℕ) (r : Routine) → IsWhole u → OpensOnWords u limit input r → (ws : List Way) (s : State) (b : Bases) (t : worded.State) (w : Way) (p : Ask)
+      → runs u limit ws (opening_state u input turns r) ≡ Some s → IsShownBy b s t → AllHaveNext u limit s → word_core.look u w t.task ≡ Some p → AsksOnNames s b w p
+  asks-on-names input turns r whole is ws s b t w p run shown all ask = let next = event-there s w all (goes b w s.task t.task p shown.task ask) in go next.0 (look u w s.task) refl next.1
+    where
+      go : (s' : State) (o : Option Op) → look u w s.task ≡ o → asked (core u) (memory u) (within limit) s w o ≡ Some s' → AsksOnNames s b w p
+      go s' None q e = none-some e
+      go s' (Some o) q e =
+          let x = asks-alike input turns r whole is ws s b t w o run shown q in
+          record { op = o; looks = q; is = subst (λ z. IsAskOf b o z) (some-inj (sym x.1 ∙ ask)) x.2; there = λ m. none-some (sym (ap (answered (core u) (memory u) (within limit) s w o) m) ∙ e) }
 
   pub words-do-no-more : (input : List ℤ) (turns : ℕ) (r : Routine) → IsWhole u → OpensOnWords u limit input r → (ws : List Way) (s : State) (b : Bases) (t t' : worded.State) (w : Way)
       → runs u limit ws (opening_state u input turns r) ≡ Some s → IsShownBy b s t → AllHaveNext u limit s → word_core.step u limit t w ≡ Some t'

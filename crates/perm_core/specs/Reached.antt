@@ -62,6 +62,10 @@ module _ (u : UnitCode) (limit : ℕ) (input : List ℤ) (turns : ℕ) where
   abbrev pub TellsMeaning : Type 0
   TellsMeaning = (t : worded.State) (g : Final ℕ) → IsReached t → final t.task ≡ Some g → IsToldOnWords input turns (outcome u input turns limit) t g
 
+  -- a state that is reached has no conflict
+  abbrev pub HasNoConflictOnWords : Type 0
+  HasNoConflictOnWords = (t : worded.State) → IsReached t → word_core.Conflict u t → ⊥
+
   -- from a state that is reached two events of different nodes may come in either order, and lead to states that show one state on names, unless an allocation is refused in one of the orders
   abbrev pub EitherOrderOnWords : Type 0
   EitherOrderOnWords = (t a b : worded.State) (p q : Way) → IsReached t → p ≢ q → word_core.step u limit t p ≡ Some a → word_core.step u limit t q ≡ Some b
