@@ -1,4 +1,4 @@
-//! Runs the programs of the folder in which it is started, and tells whether what comes of each is what stands beside it: `NAME.perm` writes `NAME.out`, and ends with the status in `NAME.status`, or with 0 where there is no such file. `cases.txt` has small texts with their answers.
+//! Runs the programs of the folder in which it is started, and tells whether what comes of each is what stands beside it: `NAME.perm` writes `NAME.out`, and ends with the status in `NAME.status`, or with 0 where there is no such file. `cases.txt` and `runs.txt` have small texts with their answers.
 #![tactic(auto)]
 
 #[cfg(test)]
@@ -26,7 +26,8 @@ fn main(rt: HostRuntime) -> io::Result<()> {
         };
         println!(rt; "{name}: {verdict}")?;
     }
-    run_cases(&rt)
+    run_cases(&rt, "cases.txt")?;
+    run_cases(&rt, "runs.txt")
 }
 
 /// The names of the programs, in order.
@@ -77,10 +78,10 @@ fn wanted_status(rt: &HostRuntime, name: &str) -> io::Result<u8> {
     Ok(text.as_str().trim().parse::<u8>().unwrap_or(u8::MAX))
 }
 
-/// Runs the small texts, and tells how many there are and which aren't answered as told.
-fn run_cases(rt: &HostRuntime) -> io::Result<()> {
+/// Runs the small texts of a file, and tells how many there are and which aren't answered as told.
+fn run_cases(rt: &HostRuntime, path: &str) -> io::Result<()> {
     let alloc = rt.alloc();
-    let cases = fs::read_to_string(rt, "cases.txt")?;
+    let cases = fs::read_to_string(rt, path)?;
     let mut count = 0u32;
     for line in cases.as_str().lines() {
         let Some((program, wanted)) = line.rsplit_once(" -> ") else {
@@ -92,15 +93,16 @@ fn run_cases(rt: &HostRuntime) -> io::Result<()> {
         }
         count = count.saturating_add(1);
     }
-    println!(rt; "{count} small texts are answered")?;
+    println!(rt; "{count} small texts of {path} are answered")?;
     Ok(())
 }
 
-/// The status and the answer of a text, on one line.
+/// The status and the answer of a text, on one line, with a slash between the lines of the answer.
 fn told_of(alloc: Global, program: &str) -> Result<String, AllocError> {
     let answer = answer_of(alloc, &mut shelf_with(alloc, program)?, PATH)?;
     let text = String::from_utf8_lossy(alloc, answer.text.as_slice())?;
-    format!(in alloc; "{} {}", answer.status, text.as_str().trim())
+    let told = text.as_str().trim().replace(alloc, "\n", " / ")?;
+    format!(in alloc; "{} {}", answer.status, told.as_str())
 }
 
 /// A shelf with one text.

@@ -7,11 +7,13 @@ use Rattle.perm_tree.specs.declared.errors.ParseError.{ParseError}
 use Rattle.perm_tree.specs.declared.errors.ParseError.TheVariants as syntactic
 use Rattle.perm_tree.specs.declared.errors.TableError.{TableError}
 use Rattle.perm_tree.specs.declared.errors.TableError.TheVariants as table
+use Rattle.perm_tree.specs.declared.errors.TrapKind.{TrapKind}
+use Rattle.perm_tree.specs.declared.errors.TrapKind.TheVariants as traps
 use Rattle.perm_tree.specs.declared.errors.TypeKind.{TypeKind}
 use Rattle.perm_tree.specs.declared.errors.TypeKind.TheVariants as typing
 use Rattle.perm_tree.specs.declared.place.Place.{Place}
 use Rattle.perm_answer.specs.declared.Answer.{Answer}
-use Rattle.perm_answer.specs.declared.Answer.TheVariants.{Usage, ReadFault, TooLong, Lex, Syntax, Table, Typing, Done}
+use Rattle.perm_answer.specs.declared.Answer.TheVariants.{Usage, ReadFault, TooLong, Lex, Syntax, Table, Typing, Done, Trap, OutOfTurns, HeapFull}
 use Rattle.perm_answer.specs.declared.Which.{Which}
 use Rattle.perm_answer.specs.declared.Which.TheVariants.{Program, Input}
 
@@ -51,6 +53,16 @@ type_word_of typing.BadGive = codes "BadGive"
 type_word_of typing.ParShared = codes "ParShared"
 type_word_of typing.ParPermission = codes "ParPermission"
 
+-- ---------- ends of runs ----------
+-- the word of a trap
+abbrev pub trap_word_of : TrapKind → List ℕ
+trap_word_of traps.DivideByZero = codes "DivideByZero"
+trap_word_of traps.NullReference = codes "NullReference"
+trap_word_of traps.IndexOutOfRange = codes "IndexOutOfRange"
+trap_word_of traps.Overflow = codes "Overflow"
+trap_word_of traps.StackOverflow = codes "StackOverflow"
+
+-- ---------- answers that are told ----------
 -- want of memory is no refusal that is told
 abbrev pub IsTold : Answer → Type 0
 IsTold (Lex lexical.NoMemory place) = ⊥
@@ -67,9 +79,9 @@ line bytes = bytes ++ 10 ∷ []
 abbrev pub place_text : Place → List ℕ
 place_text place = decimal place.line ++ (codes ":" ++ decimal place.column)
 
--- a refusal at a place: its stage, its word and the place
-abbrev pub refusal_text : List ℕ → List ℕ → Place → List ℕ
-refusal_text stage word place = line (stage ++ (word ++ (codes " " ++ place_text place)))
+-- what is told with a place: what it is, its word and the place
+abbrev pub placed_line : List ℕ → List ℕ → Place → List ℕ
+placed_line stage word place = line (stage ++ (word ++ (codes " " ++ place_text place)))
 
 -- a line with a number behind some bytes
 abbrev pub number_line : List ℕ → ℤ → List ℕ
@@ -79,9 +91,9 @@ number_line front n = line (front ++ signed_decimal n)
 abbrev pub printed_text : List ℤ → List ℕ
 printed_text numbers = flat_map (number_line []) numbers
 
--- the printed numbers, and the result
-abbrev pub run_text : List ℤ → ℤ → List ℕ
-run_text printed returned = printed_text printed ++ number_line (codes "done ") returned
+-- the printed numbers, and the line of the end
+abbrev pub run_text : List ℤ → List ℕ → List ℕ
+run_text printed end = printed_text printed ++ end
 
 -- the name of a file
 abbrev pub file_word : Which → List ℕ
@@ -93,12 +105,15 @@ abbrev pub text_of : Answer → List ℕ
 text_of Usage = line (codes "usage: permrun [--check] [--workers N] [--turns N] [--heap N] [--dump] [--stats] (PROGRAM [INPUT] | --make SIZE [--from N])")
 text_of (ReadFault which) = line (codes "read fault " ++ file_word which)
 text_of (TooLong which) = line (codes "too long " ++ file_word which)
-text_of (Lex error place) = refusal_text (codes "lex ") (lex_word_of error) place
-text_of (Syntax error place) = refusal_text (codes "syntax ") (syntax_word_of error) place
+text_of (Lex error place) = placed_line (codes "lex ") (lex_word_of error) place
+text_of (Syntax error place) = placed_line (codes "syntax ") (syntax_word_of error) place
 text_of (Table table.NoMain place) = line (codes "table NoMain")
-text_of (Table error place) = refusal_text (codes "table ") (table_word_of error) place
-text_of (Typing error place) = refusal_text (codes "type ") (type_word_of error.kind) place
-text_of (Done returned run) = run_text run.printed returned
+text_of (Table error place) = placed_line (codes "table ") (table_word_of error) place
+text_of (Typing error place) = placed_line (codes "type ") (type_word_of error.kind) place
+text_of (Done returned run) = run_text run.printed (number_line (codes "done ") returned)
+text_of (Trap kind place run) = run_text run.printed (placed_line (codes "trap ") (trap_word_of kind) place)
+text_of (OutOfTurns run) = run_text run.printed (line (codes "out of turns"))
+text_of HeapFull = line (codes "heap full")
 
 -- the status of an answer
 abbrev pub status : Answer → ℕ
@@ -110,3 +125,6 @@ status (Syntax error place) = 11
 status (Table error place) = 12
 status (Typing error place) = 13
 status (Done returned run) = 0
+status (Trap kind place run) = 20
+status (OutOfTurns run) = 21
+status HeapFull = 22

@@ -11,9 +11,9 @@ mod text;
 mod words;
 
 use crate::room::room_of;
-use crate::text::{append, append_refusal, append_run};
-use crate::words::{lex_word, syntax_word, table_word, type_word};
-use perm_tree::errors::{LexError, NoMemory, ParseError, TableError, TypeError};
+use crate::text::{append, append_line, append_placed, append_printed};
+use crate::words::{lex_word, syntax_word, table_word, trap_word, type_word};
+use perm_tree::errors::{LexError, NoMemory, ParseError, TableError, TrapKind, TypeError};
 use perm_tree::list::Numbers;
 use perm_tree::place::Place;
 use std::alloc::Global;
@@ -31,7 +31,7 @@ pub struct RunText {
     pub printed: Numbers,
 }
 
-/// What a call comes to, but for a fault while it is written and want of memory. A refusal has the place at which it stands; that of `NoMain` isn't told. `Done` has the result of `Run`.
+/// What a call comes to, but for a fault while it is written and want of memory. A refusal has the place at which it stands; that of `NoMain` isn't told. A trap has its place too. `Done` has the result of `Run`.
 #[derive(Debug, Drop)]
 pub enum Answer {
     Usage,
@@ -42,6 +42,9 @@ pub enum Answer {
     Table(TableError, Place),
     Typing(TypeError, Place),
     Done(i64, RunText),
+    Trap(TrapKind, Place, RunText),
+    OutOfTurns(RunText),
+    HeapFull,
 }
 
 pub(crate) const USAGE: &str =
@@ -69,16 +72,28 @@ pub fn fill(text: &mut Vec<u8>, answer: &Answer)
         Answer::ReadFault(Which::Input) => append(text, b"read fault input\n"),
         Answer::TooLong(Which::Program) => append(text, b"too long program\n"),
         Answer::TooLong(Which::Input) => append(text, b"too long input\n"),
-        Answer::Lex(error, place) => append_refusal(text, "lex ", lex_word(error), *place),
+        Answer::Lex(error, place) => append_placed(text, "lex ", lex_word(error), *place),
         Answer::Syntax(error, place) => {
-            append_refusal(text, "syntax ", syntax_word(error), *place);
+            append_placed(text, "syntax ", syntax_word(error), *place);
         }
         Answer::Table(TableError::NoMain, _) => append(text, b"table NoMain\n"),
-        Answer::Table(error, place) => append_refusal(text, "table ", table_word(error), *place),
+        Answer::Table(error, place) => append_placed(text, "table ", table_word(error), *place),
         Answer::Typing(error, place) => {
-            append_refusal(text, "type ", type_word(error.kind), *place);
+            append_placed(text, "type ", type_word(error.kind), *place);
         }
-        Answer::Done(returned, run) => append_run(text, run.printed.as_slice(), *returned),
+        Answer::Done(returned, run) => {
+            append_printed(text, run.printed.as_slice());
+            append_line(text, "done ", returned);
+        }
+        Answer::Trap(kind, place, run) => {
+            append_printed(text, run.printed.as_slice());
+            append_placed(text, "trap ", trap_word(*kind), *place);
+        }
+        Answer::OutOfTurns(run) => {
+            append_printed(text, run.printed.as_slice());
+            append(text, b"out of turns\n");
+        }
+        Answer::HeapFull => append(text, b"heap full\n"),
     }
 }
 
@@ -96,5 +111,8 @@ pub fn status_of(answer: &Answer) -> u8
         Answer::Table(_, _) => 12,
         Answer::Typing(_, _) => 13,
         Answer::Done(_, _) => 0,
+        Answer::Trap(_, _, _) => 20,
+        Answer::OutOfTurns(_) => 21,
+        Answer::HeapFull => 22,
     }
 }

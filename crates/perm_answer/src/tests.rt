@@ -4,7 +4,7 @@ ghost use Rattle.perm_answer.specs.Answers.{IsTold};
 
 use crate::{Answer, RunText, Which, fill, status_of, text_room};
 use perm_tree::ast::Span;
-use perm_tree::errors::{LexError, ParseError, TableError};
+use perm_tree::errors::{LexError, ParseError, TableError, TrapKind};
 use perm_tree::list::List;
 use perm_tree::place::Place;
 use std::alloc::Global;
@@ -56,13 +56,33 @@ fn refusals_have_their_place(rt: HostRuntime) -> Result<(), Fail> {
     Ok(())
 }
 
+/// The numbers that a run has printed.
+fn printed(alloc: Global) -> Result<RunText, Fail> {
+    let printed = List::from_vec([0, -7, i64::MIN].to_vec(alloc)?);
+    Ok(RunText { printed })
+}
+
 #[test]
 fn a_run_has_a_line_for_each_number(rt: HostRuntime) -> Result<(), Fail> {
-    let printed = List::from_vec([0, -7, i64::MIN].to_vec(rt.alloc())?);
-    let run = told(rt.alloc(), &Answer::Done(i64::MAX, RunText { printed }))?;
+    let run = told(rt.alloc(), &Answer::Done(i64::MAX, printed(rt.alloc())?))?;
     assert_eq!(rt;
         run.as_str(),
         "0 0\n-7\n-9223372036854775808\ndone 9223372036854775807\n"
     );
+    let run = told(
+        rt.alloc(),
+        &Answer::Trap(TrapKind::Overflow, PLACE, printed(rt.alloc())?),
+    )?;
+    assert_eq!(rt;
+        run.as_str(),
+        "20 0\n-7\n-9223372036854775808\ntrap Overflow 12:1048577\n"
+    );
+    let run = told(rt.alloc(), &Answer::OutOfTurns(printed(rt.alloc())?))?;
+    assert_eq!(rt;
+        run.as_str(),
+        "21 0\n-7\n-9223372036854775808\nout of turns\n"
+    );
+    let run = told(rt.alloc(), &Answer::HeapFull)?;
+    assert_eq!(rt; run.as_str(), "22 heap full\n");
     Ok(())
 }

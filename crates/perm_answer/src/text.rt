@@ -1,7 +1,7 @@
 //! Appending to a text that has room.
 
 ghost use Rattle.std.specs.Prelude.{◌≡◌, ◌≤◌, ◌+◌, ◌++◌, length, vec_capacity};
-ghost use Rattle.perm_answer.specs.Answers.{number_line, refusal_text, run_text};
+ghost use Rattle.perm_answer.specs.Answers.{number_line, placed_line, printed_text};
 ghost use Rattle.perm_answer.specs.Appending.{Appends, HasRoom};
 
 use itoa::{Buffer, Integer};
@@ -32,21 +32,20 @@ pub fn append_line(text: &mut Vec<u8>, front: &str, number: &i64)
     append(text, b"\n");
 }
 
-/// Appends the lines of the printed numbers and that of the result.
-pub fn append_run(text: &mut Vec<u8>, printed: &[i64], returned: i64)
-    requires room { HasRoom text.old (run_text printed.now returned) }
-    ensures { Appends text.old (run_text printed.now returned) text.new }
+/// Appends the lines of the printed numbers.
+pub fn append_printed(text: &mut Vec<u8>, printed: &[i64])
+    requires room { HasRoom text.old (printed_text printed.now) }
+    ensures { Appends text.old (printed_text printed.now) text.new }
 {
     for number in printed {
         append_line(text, "", number);
     }
-    append_line(text, "done ", &returned);
 }
 
-/// Appends the line of a refusal at a place.
-pub fn append_refusal(text: &mut Vec<u8>, stage: &str, word: &str, place: Place)
-    requires room { HasRoom text.old (refusal_text stage.now word.now place) }
-    ensures { Appends text.old (refusal_text stage.now word.now place) text.new }
+/// Appends the line of a refusal or a trap at a place.
+pub fn append_placed(text: &mut Vec<u8>, stage: &str, word: &str, place: Place)
+    requires room { HasRoom text.old (placed_line stage.now word.now place) }
+    ensures { Appends text.old (placed_line stage.now word.now place) text.new }
 {
     append(text, stage.as_bytes());
     append(text, word.as_bytes());

@@ -1,9 +1,9 @@
-//! The words of refusals.
+//! The words of refusals and traps.
 
 ghost use Rattle.std.specs.Prelude.{◌≡◌, ◌≤◌, ◌≢◌, length};
-ghost use Rattle.perm_answer.specs.Answers.{lex_word_of, syntax_word_of, table_word_of, type_word_of};
+ghost use Rattle.perm_answer.specs.Answers.{lex_word_of, syntax_word_of, table_word_of, trap_word_of, type_word_of};
 
-use perm_tree::errors::{LexError, ParseError, TableError, TypeKind};
+use perm_tree::errors::{LexError, ParseError, TableError, TrapKind, TypeKind};
 
 pub fn lex_word(error: &LexError) -> &'static str
     ensures { result.now ≡ lex_word_of error.now }
@@ -53,5 +53,17 @@ pub fn type_word(kind: TypeKind) -> &'static str
         TypeKind::BadGive => "BadGive",
         TypeKind::ParShared => "ParShared",
         TypeKind::ParPermission => "ParPermission",
+    }
+}
+
+pub fn trap_word(kind: TrapKind) -> &'static str
+    ensures { result.now ≡ trap_word_of kind }
+{
+    match kind {
+        TrapKind::DivideByZero => "DivideByZero",
+        TrapKind::NullReference => "NullReference",
+        TrapKind::IndexOutOfRange => "IndexOutOfRange",
+        TrapKind::Overflow => "Overflow",
+        TrapKind::StackOverflow => "StackOverflow",
     }
 }

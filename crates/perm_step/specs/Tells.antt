@@ -1,5 +1,5 @@
 -- What a caller is told of a run.
-use Rattle.std.specs.Prelude.{◌≡◌, ◌≢◌, ℤ, List, Some}
+use Rattle.std.specs.Prelude.{◌≡◌, ◌≢◌, ℤ, List, [], Some}
 use Rattle.perm_meaning.specs.declared.End.TheVariants.{HeapFull}
 use Rattle.perm_meaning.specs.declared.Outcome.{Outcome}
 use Rattle.perm_meaning.specs.Names.{root_name}
@@ -8,8 +8,7 @@ use Rattle.perm_meaning.specs.Outcome.{Report, Ran, RanFull, RanStuck}
 use Rattle.perm_meaning.specs.Shows.{Bases, HeapShown, IsWordOf}
 use Rattle.perm_meaning.specs.Values.{Reference}
 use Rattle.perm_meaning.specs.WordHeap.{root_word}
-use Rattle.perm_step.specs.Rounds.{IsFull}
-use Rattle.perm_step.specs.Workspace.{cells_of}
+use Rattle.perm_step.specs.Working.{cells_of}
 
 -- the end, the printed numbers, the turns spent and the need are those of the report, the words show its objects, and the root refers to the object of Main in them
 pub record TellsReport (r : Report) (told : Outcome) : Type 0 where
@@ -20,6 +19,15 @@ pub record TellsReport (r : Report) (told : Outcome) : Type 0 where
   pub bases : Bases
   pub root : IsWordOf bases (Some (Reference root_name 0)) told.root
   pub words : HeapShown bases (record { objects = r.objects; given = r.need }) (cells_of told.words)
+
+-- nothing else is told of a full heap
+pub record IsFull (o : Outcome) : Type 0 where
+  pub ending : o.end ≡ HeapFull
+  pub printed : o.printed ≡ []
+  pub spent : o.spent ≡ 0
+  pub need : o.need ≡ 0
+  pub words : o.words ≡ []
+  pub root : o.root ≡ 0
 
 -- what a run comes to is told, and nothing else where it fills the heap; no run is stuck
 abbrev pub Tells : meaning.Outcome → Outcome → Type 0

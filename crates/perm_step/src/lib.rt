@@ -1,10 +1,15 @@
-//! The interpreter of a program that runs alone, over a heap of words.
+//! The interpreter: the control of a branch, what its steps ask and do, and a whole run on one thread.
 #![tactic(auto)]
 
 mod alone;
-mod machine;
-mod straight;
+mod ask;
+mod calls;
+mod control;
+mod heap;
+mod leaf;
+mod pars;
+mod room;
+mod tell;
 mod values;
 
 pub use alone::run_alone;
-pub use straight::{Holds, is_straight};

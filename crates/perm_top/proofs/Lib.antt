@@ -1,3 +1,3 @@
 pub mod Complete
-pub mod OneReply
-pub mod Replies
+pub mod OneAnswer
+pub mod RunAnswers

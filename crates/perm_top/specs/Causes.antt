@@ -1,25 +1,12 @@
--- Which reply the words and the files get, and what is written of it.
-use Rattle.std.specs.Prelude.{◌≡◌, ◌⊎◌, ℕ, ◌<◌, ◌≤◌, ◌==◌, Bool, false, List, [], ◌∷◌, codes, length, Option, Some, None, if◌then◌else◌}
+-- Which answer the words and the files get, and what is written of it.
+use Rattle.std.specs.Prelude.{◌≡◌, ◌⊎◌, ℕ, ◌<◌, ◌≤◌, ◌==◌, Bool, false, List, [], ◌∷◌, length, Option, Some, None, if◌then◌else◌}
 use Rattle.perm_base.specs.Counts.{Rose}
 use Rattle.perm_base.specs.Files.{Files, HasFile, HasNoFile, WhereTold}
 use Rattle.perm_base.specs.Pieces.{appended, AppendsPart}
-use Rattle.perm_answer.specs.Answers.{line, status, text_of}
+use Rattle.perm_answer.specs.declared.Answer.{Answer}
 use Rattle.perm_answer.specs.declared.Answer.TheVariants.{Usage, ReadFault, TooLong}
 use Rattle.perm_answer.specs.declared.Which.TheVariants.{Program, Input}
-use Rattle.perm_top.specs.declared.run.Reply.{Reply}
-use Rattle.perm_top.specs.declared.run.Reply.TheVariants.{Told, Unbuilt}
-use Rattle.perm_top.specs.Programs.{IsReplyTo}
-
--- ---------- replies ----------
--- the text of a reply
-abbrev pub reply_text : Reply → List ℕ
-reply_text (Told answer) = text_of answer
-reply_text Unbuilt = line (codes "unbuilt")
-
--- the status of a reply
-abbrev pub reply_status : Reply → ℕ
-reply_status (Told answer) = status answer
-reply_status Unbuilt = 9
+use Rattle.perm_top.specs.Programs.{IsAnswerTo}
 
 -- ---------- words ----------
 -- a word that begins with `-`
@@ -37,15 +24,15 @@ named_path _ = None
 abbrev pub most_bytes : ℕ
 most_bytes = 1048576
 
--- the reply has its cause in the words, in what a shelf tells of its files, or in its count of faults
-abbrev pub IsCaused : Option Files → ℕ → ℕ → Option (List ℕ) → Reply → Type 0
-IsCaused told before now None reply = reply ≡ Told Usage
-IsCaused told before now (Some path) (Told Usage) = ⊥
-IsCaused told before now (Some path) (Told (ReadFault Program)) = Rose before now ⊎ HasNoFile told path
-IsCaused told before now (Some path) (Told (ReadFault Input)) = ⊥
-IsCaused told before now (Some path) (Told (TooLong Program)) = WhereTold told path (λ bytes. most_bytes < length bytes)
-IsCaused told before now (Some path) (Told (TooLong Input)) = ⊥
-IsCaused told before now (Some path) reply = WhereTold told path (λ bytes. (length bytes ≤ most_bytes) × IsReplyTo bytes reply)
+-- the answer has its cause in the words, in what a shelf tells of its files, or in its count of faults
+abbrev pub IsCaused : Option Files → ℕ → ℕ → Option (List ℕ) → Answer → Type 0
+IsCaused told before now None answer = answer ≡ Usage
+IsCaused told before now (Some path) Usage = ⊥
+IsCaused told before now (Some path) (ReadFault Program) = Rose before now ⊎ HasNoFile told path
+IsCaused told before now (Some path) (ReadFault Input) = ⊥
+IsCaused told before now (Some path) (TooLong Program) = WhereTold told path (λ bytes. most_bytes < length bytes)
+IsCaused told before now (Some path) (TooLong Input) = ⊥
+IsCaused told before now (Some path) answer = WhereTold told path (λ bytes. (length bytes ≤ most_bytes) × IsAnswerTo bytes answer)
 
 -- what a sink was given of a text, and the status: the whole text with its status, or after a fault of the sink a part of it and 5
 abbrev pub IsWritten : Option (List ℕ) → Option (List ℕ) → ℕ → ℕ → List ℕ → ℕ → ℕ → Type 0

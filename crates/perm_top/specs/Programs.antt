@@ -8,14 +8,11 @@ use Rattle.perm_tree.specs.CodeOf.{code_of}
 use Rattle.perm_tree.specs.TextPlaces.{IsPlaceOf}
 use Rattle.perm_tree.specs.UnitTables.{Tables}
 use Rattle.perm_check.specs.Checks.{IsAcceptedOf, IsRefusalOf}
+use Rattle.perm_meaning.specs.declared.End.{End}
 use Rattle.perm_meaning.specs.declared.End.TheVariants as ends
-use Rattle.perm_meaning.specs.Outcome.{Report, Ran, outcome}
-use Rattle.perm_step.specs.Straight.{IsStraight}
-use Rattle.perm_answer.specs.Answers.{IsTold}
+use Rattle.perm_meaning.specs.Outcome.{Outcome, Ran, RanFull, RanStuck, outcome}
 use Rattle.perm_answer.specs.declared.Answer.{Answer}
-use Rattle.perm_answer.specs.declared.Answer.TheVariants.{Usage, ReadFault, TooLong, Lex, Syntax, Table, Typing, Done}
-use Rattle.perm_top.specs.declared.run.Reply.{Reply}
-use Rattle.perm_top.specs.declared.run.Reply.TheVariants.{Told, Unbuilt}
+use Rattle.perm_answer.specs.declared.Answer.TheVariants.{Usage, ReadFault, TooLong, Lex, Syntax, Table, Typing, Done, Trap, OutOfTurns, HeapFull}
 
 -- ---------- refusals ----------
 -- the span of a refusal
@@ -30,13 +27,6 @@ pub record IsRefusedAt (text : List ℕ) (refusal : Refusal) (place : Place) : T
   pub refused : IsRefusalOf text refusal
   pub at : IsPlaceOf text (refusal_span refusal).start place
 
--- the answer that tells a refusal at a place
-abbrev pub refusal_answer : Refusal → Place → Answer
-refusal_answer (refusals.Lex e span) place = Lex e place
-refusal_answer (refusals.Parse e span) place = Syntax e place
-refusal_answer (refusals.Table e span) place = Table e place
-refusal_answer (refusals.Typing e) place = Typing e place
-
 -- ---------- runs ----------
 -- the turns of a run, where no option says otherwise
 abbrev pub default_turns : ℕ
@@ -46,25 +36,28 @@ default_turns = 2 ^ 40
 abbrev pub default_heap : ℕ
 default_heap = 2 ^ 20
 
--- the unit is straight, and its run gives back this number and prints these
-pub record RunsUnit (unit : Tables) (returned : ℤ) (printed : List ℤ) : Type 0 where
-  pub straight : IsStraight unit
-  pub report : Report
-  pub ran : outcome (code_of unit) [] default_turns default_heap ≡ Ran report
-  pub done : report.ending ≡ ends.Done returned
-  pub prints : report.printed ≡ printed
+-- the answer tells the end of a run of a text that printed these numbers; a trap has the place at which its span begins
+abbrev pub TellsEnd : List ℕ → End → List ℤ → Answer → Type 0
+TellsEnd text (ends.Done returned) printed answer = answer ≡ Done returned (record { printed = printed })
+TellsEnd text (ends.Trap kind span) printed answer = (place : Place) × IsPlaceOf text span.start place × (answer ≡ Trap kind place (record { printed = printed }))
+TellsEnd text ends.OutOfTurns printed answer = answer ≡ OutOfTurns (record { printed = printed })
+TellsEnd text ends.HeapFull printed answer = answer ≡ HeapFull
 
--- so runs the unit of the text, which is accepted
-pub record Runs (text : List ℕ) (returned : ℤ) (printed : List ℤ) : Type 0 where
+-- it tells what a run comes to: of a full heap nothing but that. No run is stuck
+abbrev pub TellsRun : List ℕ → Outcome → Answer → Type 0
+TellsRun text (Ran report) answer = TellsEnd text report.ending report.printed answer
+TellsRun text RanFull answer = answer ≡ HeapFull
+TellsRun text RanStuck answer = ⊥
+
+-- it tells the run of a unit of the text without input
+abbrev pub IsRunOf : List ℕ → Tables → Answer → Type 0
+IsRunOf text unit answer = TellsRun text (outcome (code_of unit) [] default_turns default_heap) answer
+
+-- it tells the run of the text's unit, which is accepted
+pub record Runs (text : List ℕ) (answer : Answer) : Type 0 where
   pub unit : Tables
   pub checked : IsAcceptedOf text unit
-  pub run : RunsUnit unit returned printed
-
--- its unit is accepted and isn't straight
-pub record IsUnbuilt (text : List ℕ) : Type 0 where
-  pub unit : Tables
-  pub checked : IsAcceptedOf text unit
-  pub other : IsStraight unit → ⊥
+  pub run : IsRunOf text unit answer
 
 -- ---------- answers ----------
 -- the answer to a text that was read
@@ -76,20 +69,4 @@ IsAnswerTo text (Lex e place) = (span : Span) × IsRefusedAt text (refusals.Lex 
 IsAnswerTo text (Syntax e place) = (span : Span) × IsRefusedAt text (refusals.Parse e span) place
 IsAnswerTo text (Table e place) = (span : Span) × IsRefusedAt text (refusals.Table e span) place
 IsAnswerTo text (Typing e place) = IsRefusedAt text (refusals.Typing e) place
-IsAnswerTo text (Done returned run) = Runs text returned run.printed
-
--- the reply to it
-abbrev pub IsReplyTo : List ℕ → Reply → Type 0
-IsReplyTo text (Told answer) = IsAnswerTo text answer
-IsReplyTo text Unbuilt = IsUnbuilt text
-
--- the reply to a unit
-abbrev pub IsReplyOf : Tables → Reply → Type 0
-IsReplyOf unit (Told (Done returned run)) = RunsUnit unit returned run.printed
-IsReplyOf unit (Told answer) = ⊥
-IsReplyOf unit Unbuilt = IsStraight unit → ⊥
-
--- want of memory is no answer that is told
-abbrev pub HasText : Reply → Type 0
-HasText (Told answer) = IsTold answer
-HasText Unbuilt = Unit {0}
+IsAnswerTo text answer = Runs text answer

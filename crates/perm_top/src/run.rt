@@ -1,23 +1,22 @@
 //! The one call that does all that the program does.
 
-ghost use Rattle.std.specs.Prelude.{◌≡◌, ◌≤◌, ◌+◌, ℕ, List, length, map, vec_len, IfErr, IfOk, OnErr};
+ghost use Rattle.std.specs.Prelude.{◌≡◌, ◌≤◌, ◌+◌, ℕ, List, length, map, IfOk, OnErr};
 ghost use Rattle.std.specs.Option.{option_copied};
 ghost use Rattle.perm_base.specs.Counts.{Rose};
 ghost use Rattle.perm_base.specs.Pieces.{appended};
 ghost use Rattle.perm_tree.specs.TextPlaces.{IsPlaceOf};
 ghost use Rattle.perm_answer.specs.declared.Answer.{Answer};
-ghost use Rattle.perm_top.specs.declared.run.Reply.{Reply};
-ghost use Rattle.perm_top.specs.Causes.{most_bytes, named_path, is_option, reply_status, reply_text, IsCaused, IsPlain, IsWritten};
-ghost use Rattle.perm_check.specs.Checks.{IsAcceptedOf, IsFaultOf, IsOfText, IsRefusalOf};
-ghost use Rattle.perm_top.specs.Programs.{refusal_answer, refusal_span, HasText, IsAnswerTo, IsReplyOf, IsReplyTo};
-ghost use Rattle.perm_answer.specs.Answers.{IsTold};
+ghost use Rattle.perm_answer.specs.Answers.{status, text_of, IsTold};
+ghost use Rattle.perm_check.specs.Checks.{IsOfText, IsRefusalOf};
+ghost use Rattle.perm_top.specs.Causes.{most_bytes, named_path, is_option, IsCaused, IsPlain, IsWritten};
+ghost use Rattle.perm_top.specs.Programs.{IsAnswerTo, IsRunOf, TellsEnd};
 
 use perm_answer::{Answer, RunText, Which, fill, status_of, text_room};
 use perm_base::{ReadFault, Shelf, Sink, read_text, write_all};
 use perm_check::check_text;
 use perm_meaning::{End, Outcome};
 use perm_rules::Checked;
-use perm_step::{is_straight, run_alone};
+use perm_step::run_alone;
 use perm_tree::errors::{CheckFault, NoMemory, Refusal};
 use perm_tree::list::Numbers;
 use perm_tree::place::{Place, place_of};
@@ -34,16 +33,6 @@ const DEFAULT_HEAP: u64 = 1 << 20;
 /// The status of a text that wasn't written to its end.
 const WRITE_FAULT: u8 = 5;
 
-/// The status of a program for which no run is built.
-const UNBUILT: u8 = 9;
-
-/// What a call comes to. `Unbuilt` is a program without a fault so far, for which no run is built.
-#[derive(Debug, Drop)]
-pub enum Reply {
-    Told(Answer),
-    Unbuilt,
-}
-
 /// Does what the command line's words ask for, and answers the status. The words are those behind the program's name.
 pub fn run_words<F: Shelf, K: Sink>(
     alloc: Global,
@@ -51,29 +40,25 @@ pub fn run_words<F: Shelf, K: Sink>(
     shelf: &mut F,
     sink: &mut K,
 ) -> Result<u8, NoMemory>
-    // What is written and answered is that of a reply with its cause.
-    ensures caused { IfOk result (λ given. (reply : Reply)
-        × IsCaused (F.told shelf.old) (F.faults shelf.old) (F.faults shelf.new) (named_path (map (λ w. w.now) words.now)) reply
-        × IsWritten (K.told sink.old) (K.told sink.new) (K.faults sink.old) (K.faults sink.new) (reply_text reply) (reply_status reply) given) }
+    // What is written, and the status, is that of an answer with its cause.
+    ensures caused { IfOk result (λ given. (answer : Answer)
+        × IsCaused (F.told shelf.old) (F.faults shelf.old) (F.faults shelf.new) (named_path (map (λ w. w.now) words.now)) answer
+        × IsWritten (K.told sink.old) (K.told sink.new) (K.faults sink.old) (K.faults sink.new) (text_of answer) (status answer) given) }
 
-    // Without a fault, any reply that a program of the shelf has is the one that is written and answered.
-    ensures complete { IfOk result (λ given. (bytes : List ℕ) (reply : Reply)
-        → IsPlain (F.told shelf.old) (named_path (map (λ w. w.now) words.now)) bytes → IsReplyTo bytes reply
+    // Without a fault, any answer that a program of the shelf has is the one that is written.
+    ensures complete { IfOk result (λ given. (bytes : List ℕ) (answer : Answer)
+        → IsPlain (F.told shelf.old) (named_path (map (λ w. w.now) words.now)) bytes → IsAnswerTo bytes answer
         → (Rose (F.faults shelf.old) (F.faults shelf.new) → ⊥) → (Rose (K.faults sink.old) (K.faults sink.new) → ⊥)
-        → (given ≡ reply_status reply) × (K.told sink.new ≡ appended (K.told sink.old) (reply_text reply))) }
+        → (given ≡ status answer) × (K.told sink.new ≡ appended (K.told sink.old) (text_of answer))) }
     ensures no_memory { OnErr result (sink.new ≡ sink.old) }
     ensures files { F.told shelf.new ≡ F.told shelf.old }
     ensures not_fewer { F.faults shelf.old ≤ F.faults shelf.new }
     ensures reads { F.reads shelf.new ≤ F.reads shelf.old + most_bytes + 1 }
 {
-    match reply_to(alloc, words, shelf)? {
-        Reply::Told(answer) => {
-            let mut text = text_room(alloc, &answer)?;
-            fill(&mut text, &answer);
-            Ok(write(sink, text.as_slice(), status_of(&answer)))
-        }
-        Reply::Unbuilt => Ok(write(sink, b"unbuilt\n", UNBUILT)),
-    }
+    let answer = answer_to(alloc, words, shelf)?;
+    let mut text = text_room(alloc, &answer)?;
+    fill(&mut text, &answer);
+    Ok(write(sink, text.as_slice(), status_of(&answer)))
 }
 
 /// Writes a text, and answers that status, or the one of a text that wasn't written to its end.
@@ -86,20 +71,21 @@ fn write<K: Sink>(sink: &mut K, text: &[u8], status: u8) -> u8
     }
 }
 
-fn reply_to<F: Shelf>(alloc: Global, words: &[&str], shelf: &mut F) -> Result<Reply, NoMemory>
+/// The answer that the words get.
+fn answer_to<F: Shelf>(alloc: Global, words: &[&str], shelf: &mut F) -> Result<Answer, NoMemory>
     ensures caused { IfOk result (IsCaused (F.told shelf.old) (F.faults shelf.old) (F.faults shelf.new) (named_path (map (λ w. w.now) words.now))) }
-    ensures told { IfOk result HasText }
+    ensures told { IfOk result IsTold }
     ensures files { F.told shelf.new ≡ F.told shelf.old }
     ensures not_fewer { F.faults shelf.old ≤ F.faults shelf.new }
     ensures reads { F.reads shelf.new ≤ F.reads shelf.old + most_bytes + 1 }
 {
     let Some(path) = program_path(words) else {
-        return Ok(Reply::Told(Answer::Usage));
+        return Ok(Answer::Usage);
     };
     match read_text(alloc, shelf, path, MAX_TEXT) {
-        Ok(text) => run_text(alloc, text),
-        Err(ReadFault::Fault) => Ok(Reply::Told(Answer::ReadFault(Which::Program))),
-        Err(ReadFault::TooLong) => Ok(Reply::Told(Answer::TooLong(Which::Program))),
+        Ok(text) => run_text(alloc, text.as_slice()),
+        Err(ReadFault::Fault) => Ok(Answer::ReadFault(Which::Program)),
+        Err(ReadFault::TooLong) => Ok(Answer::TooLong(Which::Program)),
         Err(ReadFault::NoMemory) => Err(NoMemory),
     }
 }
@@ -129,33 +115,21 @@ fn begins_option(word: &[u8]) -> bool
     }
 }
 
-/// Checks a program's text and runs it without input. A run doesn't hold the text.
-fn run_text(alloc: Global, text: Vec<u8>) -> Result<Reply, NoMemory>
-    requires { vec_len text ≤ 1048576 }
-    ensures reply { IfOk result (IsReplyTo text.items) }
-    ensures told { IfOk result HasText }
+/// Checks a program's text and runs it without input. The text is held during the run, since the place of a trap is told of it.
+fn run_text(alloc: Global, text: &[u8]) -> Result<Answer, NoMemory>
+    requires short { length text.now ≤ 1048576 }
+    ensures answer { IfOk result (IsAnswerTo text.now) }
+    ensures told { IfOk result IsTold }
 {
-    match checked_of(alloc, text)? {
-        Ok(checked) => run_unit(alloc, &checked),
-        Err(answer) => Ok(Reply::Told(answer)),
-    }
-}
-
-/// The checked unit of a text, or the answer that refuses it. The text is dropped.
-fn checked_of(alloc: Global, text: Vec<u8>) -> Result<Result<Checked, Answer>, NoMemory>
-    requires { vec_len text ≤ 1048576 }
-    ensures accepted { IfOk result (λ found. IfOk found (IsAcceptedOf text.items)) }
-    ensures refused { IfOk result (λ found. IfErr found (λ answer. IsAnswerTo text.items answer × IsTold answer)) }
-{
-    match check_text(alloc, text.as_slice()) {
-        Ok(checked) => Ok(Ok(checked)),
-        Err(CheckFault::Refused(refusal)) => Ok(Err(answer_to(text.as_slice(), refusal))),
+    match check_text(alloc, text) {
+        Ok(checked) => run_unit(alloc, text, &checked),
+        Err(CheckFault::Refused(refusal)) => Ok(refused(text, refusal)),
         Err(CheckFault::NoMemory) => Err(NoMemory),
     }
 }
 
 /// The answer that tells a refusal of a text.
-fn answer_to(text: &[u8], refusal: Refusal) -> Answer
+fn refused(text: &[u8], refusal: Refusal) -> Answer
     requires short { length text.now ≤ 1048576 }
     requires refused { IsRefusalOf text.now refusal }
     requires told { IsOfText refusal }
@@ -170,15 +144,11 @@ fn answer_to(text: &[u8], refusal: Refusal) -> Answer
     }
 }
 
-/// Runs a unit without input, where it is straight.
-fn run_unit(alloc: Global, checked: &Checked) -> Result<Reply, NoMemory>
-    ensures ran { IfOk result (IsReplyOf checked.now) }
+/// Runs the unit of a text without input.
+fn run_unit(alloc: Global, text: &[u8], checked: &Checked) -> Result<Answer, NoMemory>
+    requires short { length text.now ≤ 1048576 }
+    ensures ran { IfOk result (IsRunOf text.now checked.now) }
 {
-    let unit = checked.unit();
-    if !is_straight(alloc, unit)? {
-        return Ok(Reply::Unbuilt);
-    }
-    let outcome = run_alone(alloc, unit, &[], DEFAULT_TURNS, DEFAULT_HEAP)?;
     let Outcome {
         end,
         printed,
@@ -186,18 +156,22 @@ fn run_unit(alloc: Global, checked: &Checked) -> Result<Reply, NoMemory>
         need: _,
         words: _,
         root: _,
-    } = outcome;
-    match &end {
-        End::Done(returned) => Ok(done(returned, printed)),
-        _ => unreachable!(),
-    }
+    } = run_alone(alloc, checked, &[], DEFAULT_TURNS, DEFAULT_HEAP)?;
+    Ok(ended(text, &end, printed))
 }
 
-/// The reply to a run that gave back a number.
-fn done(returned: &i64, printed: Numbers) -> Reply
-    ensures { result ≡ Reply.Told (Answer.Done returned.now (record { printed = printed })) }
+/// The answer that tells how a run of a text has ended and what it has printed.
+fn ended(text: &[u8], end: &End, printed: Numbers) -> Answer
+    requires short { length text.now ≤ 1048576 }
+    ensures { TellsEnd text.now end.now printed result }
 {
-    Reply::Told(Answer::Done(*returned, RunText { printed }))
+    let run = RunText { printed };
+    match end {
+        End::Done(returned) => Answer::Done(*returned, run),
+        End::Trap(kind, span) => Answer::Trap(*kind, place_in(text, span.start), run),
+        End::OutOfTurns => Answer::OutOfTurns(run),
+        End::HeapFull => Answer::HeapFull,
+    }
 }
 
 /// The place of a byte, or of the end of the text.

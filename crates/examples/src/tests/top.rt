@@ -87,7 +87,7 @@ fn one_more_than_a_limit_is_too_many(rt: HostRuntime) -> Result<(), Fail> {
             (" long y", ";"),
             254,
             " return 0; } }",
-            "9\nunbuilt\n",
+            "0\ndone 0\n",
             "12\ntable TooMany 1:3107\n",
         ),
     ];

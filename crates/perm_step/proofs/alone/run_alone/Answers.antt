@@ -1,65 +1,64 @@
-use Rattle.std.proofs.Common.{◌≡◌, ℕ, ◌+◌, ◌<◌, ◌≤◌, List, [], length, get_or, replicate, ap, arith, subst}
-use Rattle.std.proofs.lemmas.Grind.{common_steps}
+use Rattle.std.proofs.Common.{◌≡◌, ◌+◌, refl, subst, arith}
 use Rattle.std.proofs.lemmas.Result.{IfOk-weaker}
-use Rattle.std.proofs.lemmas.Option.{slice_get_within}
-use Rattle.perm_tree.specs.declared.bodies.Entry.{Entry}
-use Rattle.perm_tree.specs.declared.bodies.Step.{Step}
-use Rattle.perm_tree.specs.declared.bodies.Bodies.{Bodies}
-use Rattle.perm_tree.specs.CodeOf.{code_of}
-use Rattle.perm_tree.specs.Links.{AreBodiesOf}
-use Rattle.perm_tree.specs.UnitTables.{Tables}
-use Rattle.perm_meaning.specs.Objects.{size}
+use Rattle.perm_meaning.specs.declared.Outcome.{Outcome}
+use Rattle.perm_meaning.specs.Outcome.{outcome}
 use Rattle.perm_meaning.specs.WordHeap.{root_word}
-use Rattle.perm_step.specs.Rounds.{HasRoomForAll, IsReadyToRun}
-use Rattle.perm_step.specs.Straight.{IsStraight}
-use Rattle.perm_step.specs.Workspace.{Workspace, locals}
-use Rattle.perm_step.proofs.Deciding.{read_at}
-use Rattle.perm_step.proofs.StraightCode.{straight_code}
-use Rattle.perm_step.proofs.StraightUnits.{start}
-use Rattle.perm_step.proofs.ToldRuns.{concluded_tells}
+use Rattle.perm_tree.specs.CodeOf.{code_of}
+use Rattle.perm_step.specs.declared.alone.Run.{Run}
+use Rattle.perm_step.specs.declared.heap.Shortage.TheVariants as shortages
+use Rattle.perm_step.specs.Heaps.{Heaped}
+use Rattle.perm_step.specs.Opens.{opening_size, IsNotOpened}
+use Rattle.perm_step.specs.ParMoves.{final_of}
+use Rattle.perm_step.specs.Reports.{IsReport}
+use Rattle.perm_step.specs.Tells.{IsFull, Tells}
+use Rattle.perm_step.proofs.WholeRuns.OpeningRuns.{begun, begun-comes, bodies-of, has-begun, run-there}
+use Rattle.perm_step.proofs.WholeRuns.Reporting.{never-fine, short-tells, through-tells, unopened-full}
+use Rattle.perm_step.proofs.StepEvents.{step-claims}
 use Rattle.perm_step.proofs.alone.run_alone.Goals as goal
 
-abbrev no_entry : Entry
-no_entry = record { first = 0; last = 0; variables = 0 }
+pub open-requires-clause-there : goal.open-requires-clause-there
+open-requires-clause-there c = run-there (code_of c.args.checked.now) c.bodies-bodies.result.now (bodies-of c.unit-unit.ensures c.bodies-bodies.ensures) c.checked.ensures
 
-pub bounds-as_slice-bodies : goal.bounds-as_slice-bodies
-bounds-as_slice-bodies c =
-    let u = code_of c.args.unit.now in
-    let a = c.bodies-bodies.ensures.linked in
-    omega (arith, slice_get_within u.routines u.run (start c.args.unit.now c.requires.straight) (straight_code c.args.unit.now c.requires.straight), a.entries, a.run, ap (λ (l : List Entry). length l) c.as_slice.ensures)
+pub returns-in-Err-clause-tells : goal.returns-in-Err-clause-tells
+returns-in-Err-clause-tells c =
+    let b = c.bodies-bodies.result.now in
+    let u = code_of c.args.checked.now in
+    let meant = outcome u c.args.input.now c.args.turns c.args.heap in
+    let refused = subst (λ (g : Heaped). IsNotOpened (opening_size b c.args.input.now) g.limit c.in-Err.shortage) c.new-heap.ensures c.in-Err.ensures.refused in
+    let tells = λ (told : Outcome) (h : (c.in-Err.shortage ≡ shortages.HeapFull) × IsFull told).
+    unopened-full u b (bodies-of c.unit-unit.ensures c.bodies-bodies.ensures) c.checked.ensures c.args.input.now c.args.turns c.args.heap c.in-Err.shortage told refused h.0 h.1 in
+    IfOk-weaker c.full.result (λ told. (c.in-Err.shortage ≡ shortages.HeapFull) × IsFull told) (Tells meant) tells c.full.ensures
 
--- the machine is about to run the unit
-abbrev ready : (u : Tables) (s : IsStraight u) (b : Bodies) (a : AreBodiesOf (code_of u) b) (entries : List Entry) (same : entries ≡ b.entries) (steps : List Step) (of_steps : steps ≡ b.steps) (m : Workspace) (turns heap : ℕ) → heap ≤ 4194304
-    → m ≡ record { at = (get_or entries b.run no_entry).first; base = 0; vars = replicate (get_or entries b.run no_entry).variables 0; room = m.room; words = []; printed = []; turns = turns; limit = heap } → HasRoomForAll m.room steps → IsReadyToRun u b m
-ready u s b a entries same steps of_steps m turns heap small made room =
-    let within : b.run < length b.entries = omega (arith, slice_get_within (code_of u).routines (code_of u).run (start u s) (straight_code u s), a.entries, a.run) in
-    record {
-      straight = s;
-      bodies = a;
-      entry = get_or entries b.run no_entry;
-      here = read_at entries b.entries b.run no_entry same within;
-      at = ap (λ (m : Workspace). m.at) made;
-      vars = ap locals made;
-      room = subst (λ (l : List Step). HasRoomForAll m.room l) of_steps room;
-      words = ap (λ (m : Workspace). m.words) made;
-      printed = ap (λ (m : Workspace). m.printed) made;
-      limit = omega (arith, ap (λ (m : Workspace). m.limit) made, small);
-    }
+pub to_end-requires : goal.to_end-requires
+to_end-requires c =
+    let x = has-begun c.unit-unit.ensures c.bodies-bodies.ensures c.resolved.ensures.resolved c.checked.ensures c.requires.turns c.requires.heap c.new-heap.ensures c.in-Ok.ensures.opened in
+    let r : Run = record { leaf = c.running.result; waiting = c.new.result; heap = c.open.new.heap } in
+    record { coming = (begun x, begun-comes x r c.running.ensures c.new.ensures.items refl) }
 
-pub run-ended-requires-clause-ready : goal.run-ended-requires-clause-ready
-run-ended-requires-clause-ready c = (
-  c.args.unit.now,
-  ready c.args.unit.now c.requires.straight c.bodies-bodies.result.now c.bodies-bodies.ensures.linked c.as_slice.result.now c.as_slice.ensures c.as_slice-2.result.now c.as_slice-2.ensures c.in_ok-machine.machine
-      c.args.turns c.args.heap c.requires.heap c.in_ok-machine.ensures.made c.in_ok-machine.ensures.room,
-)
+pub report-requires : goal.report-requires
+report-requires c =
+    let x = has-begun c.unit-unit.ensures c.bodies-bodies.ensures c.resolved.ensures.resolved c.checked.ensures c.requires.turns c.requires.heap c.new-heap.ensures c.in-Ok.ensures.opened in
+    let r : Run = record { leaf = c.running.result; waiting = c.new.result; heap = c.open.new.heap } in
+    let through = c.in-Ok-to_end.ensures.through (begun x) (begun-comes x r c.running.ensures c.new.ensures.items refl) in
+    never-fine step-claims (begun x) c.bodies-bodies.result.now c.to_end.new.self c.in-Ok-to_end.end through
 
-pub returns-clause-tells : goal.returns-clause-tells
-returns-clause-tells c =
-    let made = c.in_ok-machine.ensures.made in
-    let longest : c.max.result ≡ size (length c.args.input.now) = grind (arith, common_steps) in
-    let main : c.max.result + 1 ≡ root_word c.args.input.now = omega (arith, longest) in
-    IfOk-weaker c.conclude.result _ _
-    (λ o told. concluded_tells c.args.unit.now c.resolved.ensures.resolved c.bodies-bodies.result.now c.args.input.now c.args.turns c.args.heap o (c.max.result + 1) main c.in_ok-machine.machine c.run-ended.new.machine c.run-ended.result
-    (ready c.args.unit.now c.requires.straight c.bodies-bodies.result.now c.bodies-bodies.ensures.linked c.as_slice.result.now c.as_slice.ensures c.as_slice-2.result.now c.as_slice-2.ensures c.in_ok-machine.machine
-    c.args.turns c.args.heap c.requires.heap made c.in_ok-machine.ensures.room) (ap (λ (m : Workspace). m.turns) made) (ap (λ (m : Workspace). m.limit) made) c.run-ended.ensures.done c.run-ended.ensures.halted told)
-    c.conclude.ensures
+pub returns-in-Ok-to_end-clause-tells : goal.returns-in-Ok-to_end-clause-tells
+returns-in-Ok-to_end-clause-tells c =
+    let x = has-begun c.unit-unit.ensures c.bodies-bodies.ensures c.resolved.ensures.resolved c.checked.ensures c.requires.turns c.requires.heap c.new-heap.ensures c.in-Ok.ensures.opened in
+    let r : Run = record { leaf = c.running.result; waiting = c.new.result; heap = c.open.new.heap } in
+    let run = c.to_end.new.self in
+    let end = c.in-Ok-to_end.end in
+    let through = c.in-Ok-to_end.ensures.through (begun x) (begun-comes x r c.running.ensures c.new.ensures.items refl) in
+    let root : c.max.result + 1 ≡ root_word c.args.input.now = omega arith in
+    let report = subst (λ n. IsReport c.args.turns (final_of run.leaf.control end) run.heap.words n c.report.result) root c.report.ensures in
+    through-tells step-claims (begun x) c.bodies-bodies.result.now run end through c.report.result report
+
+pub returns-in-Err-to_end-clause-tells : goal.returns-in-Err-to_end-clause-tells
+returns-in-Err-to_end-clause-tells c =
+    let x = has-begun c.unit-unit.ensures c.bodies-bodies.ensures c.resolved.ensures.resolved c.checked.ensures c.requires.turns c.requires.heap c.new-heap.ensures c.in-Ok.ensures.opened in
+    let r : Run = record { leaf = c.running.result; waiting = c.new.result; heap = c.open.new.heap } in
+    let meant = outcome (code_of c.args.checked.now) c.args.input.now c.args.turns c.args.heap in
+    let shortage = c.in-Err-to_end.shortage in
+    let short = c.in-Err-to_end.ensures.short (begun x) (begun-comes x r c.running.ensures c.new.ensures.items refl) in
+    let tells = λ (told : Outcome) (h : (shortage ≡ shortages.HeapFull) × IsFull told). short-tells (begun x) shortage told short h.0 h.1 in
+    IfOk-weaker c.full-in-Err-to_end.result (λ told. (shortage ≡ shortages.HeapFull) × IsFull told) (Tells meant) tells c.full-in-Err-to_end.ensures

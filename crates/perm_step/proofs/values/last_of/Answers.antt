@@ -4,7 +4,7 @@ use Rattle.perm_tree.specs.declared.ast.UnaryOp.TheVariants.{Minus}
 use Rattle.perm_tree.specs.declared.bodies.Operand.TheVariants.{Number}
 use Rattle.perm_tree.specs.declared.bodies.Operation.{Operation}
 use Rattle.perm_tree.specs.declared.bodies.Operation.TheVariants.{Unary}
-use Rattle.perm_step.proofs.Operations.{last-answer, last-more, ordered-at, values-more}
+use Rattle.perm_step.proofs.Expressions.Operations.{last-answer, last-more, ordered-at, values-more}
 use Rattle.perm_step.proofs.values.last_of.Goals as goal
 
 pub operation-last-requires : goal.operation-last-requires

@@ -6,7 +6,7 @@ use Rattle.perm_meaning.specs.Values.{Eval}
 use Rattle.perm_meaning.specs.Words.{words}
 use Rattle.perm_step.specs.declared.values.Value.TheVariants.{Trap, Word}
 use Rattle.perm_step.specs.Evaluation.{IsAnswer}
-use Rattle.perm_step.proofs.Answering.{left_decides, left_traps, one, right_counts}
+use Rattle.perm_step.proofs.Expressions.Answering.{left_decides, left_traps, one, right_counts}
 use Rattle.perm_step.proofs.values.operation.Goals as goal
 
 pub returns-in-Unary : goal.returns-in-Unary
