@@ -2,6 +2,7 @@
 
 ghost use Rattle.std.specs.Prelude.{length, ◌≤◌};
 
+mod alone;
 mod lexer;
 mod top;
 
