@@ -1,9 +1,10 @@
+pub mod Expressions
+pub mod Routines
+pub mod SimpleStatements
 pub mod StepClaims
 pub mod StepEvents
-pub mod WordMachine
-pub mod Expressions
-pub mod SimpleStatements
-pub mod Routines
 pub mod Tests
 pub mod TwoSides
 pub mod WholeRuns
+pub mod WordMachine
+pub mod ControlStacks

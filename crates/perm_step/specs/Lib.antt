@@ -13,6 +13,8 @@ pub mod Rooms
 pub mod Running
 pub mod Runs
 pub mod Standing
+pub mod Stems
 pub mod StepMoves
 pub mod Tells
 pub mod Working
+pub mod StemMoves

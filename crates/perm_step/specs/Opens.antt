@@ -14,8 +14,8 @@ use Rattle.perm_step.specs.Working.{Working, Room}
 abbrev pub opening_size : Bodies → List ℤ → ℕ
 opening_size b input = size (length input) + size b.fields
 
--- `Run` is about to run on the object of Main and the input, with so many turns, on a heap of so many words
-pub record IsOpened (b : Bodies) (input : List ℤ) (turns limit : ℕ) (c : Working) (h : Heaped) : Type 0 where
+-- `Run` is about to run on these words, with so many turns
+pub record IsEntered (b : Bodies) (root input turns : ℕ) (c : Working) : Type 0 where
   pub entry : Entry
   pub here : slice_get b.entries b.run ≡ Some entry
   pub room : Room
@@ -23,12 +23,16 @@ pub record IsOpened (b : Bodies) (input : List ℤ) (turns limit : ℕ) (c : Wor
     at = entry.first;
     base = 0;
     calls = [];
-    vars = slice_set (slice_set (replicate entry.variables 0) 0 (root_word input)) 1 (input_word input);
+    vars = slice_set (slice_set (replicate entry.variables 0) 0 root) 1 input;
     printed = [];
     depth = 1;
     turns = turns;
     room = room;
   }
+
+-- `Run` is about to run on the object of Main and the input, with so many turns, on a heap of so many words
+pub record IsOpened (b : Bodies) (input : List ℤ) (turns limit : ℕ) (c : Working) (h : Heaped) : Type 0 where
+  pub entered : IsEntered b (root_word input) (input_word input) turns c
   pub words : (i : ℕ) → get_or h.words i 0 ≡ opening_word input i
   pub given : length h.words ≡ opening_size b input
   pub fits : opening_size b input ≤ limit

@@ -12,7 +12,7 @@ ghost use Rattle.perm_step.specs.Working.{Working};
 ghost use Rattle.perm_step.specs.Tells.{HasRoot, IsFull, Tells};
 
 use crate::ask::Ask;
-use crate::control::{Control, Failure, Leaf, set_word};
+use crate::control::{Control, Failure, Leaf};
 use crate::heap::{Heap, Shortage};
 use crate::pars::{Final, Forked};
 use perm_core::laws;
@@ -205,20 +205,7 @@ fn open(
     let array = heap.answer(Ask::Make(input.len(), input.len()))?;
     heap.write_numbers(input);
     let root = heap.answer(Ask::Make(bodies.fields as usize, 0))?;
-    let entry = bodies.entries.as_slice()[bodies.run as usize];
-    let mut vars = vec![in alloc; 0; entry.variables as usize]?;
-    set_word(&mut vars, 0, root);
-    set_word(&mut vars, 1, array);
-    Ok(Control {
-        at: entry.first,
-        base: 0,
-        calls: Vec::new(alloc),
-        vars,
-        printed: Vec::new(alloc),
-        depth: 1,
-        turns,
-        values: Vec::new(alloc),
-    })
+    Ok(Control::enter(alloc, bodies, root, array, turns)?)
 }
 
 /// What is told of a run that got no more words: of a full heap nothing but that.

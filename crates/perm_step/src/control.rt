@@ -4,6 +4,7 @@ ghost use Rattle.std.specs.Prelude.{◌≡◌, ℕ, ◌+◌, ◌<◌, ◌≤◌,
 ghost use Rattle.perm_tree.specs.BodyTerms.{IsArgumentIn, IsExpressionIn};
 ghost use Rattle.perm_step.specs.Evaluation.{HasRoomFor};
 ghost use Rattle.perm_step.specs.Given.{ArgumentGives, ArgumentTraps, ExpressionGives, ExpressionTraps, VariableGives};
+ghost use Rattle.perm_step.specs.Opens.{IsEntered};
 ghost use Rattle.perm_step.specs.Rooms.{HasRoomForArgument};
 ghost use Rattle.perm_step.specs.StepMoves.{with_variable};
 ghost use Rattle.perm_step.specs.Working.{locals};
@@ -11,7 +12,8 @@ ghost use Rattle.perm_step.specs.Working.{locals};
 use crate::values::{Value, evaluate, word_of};
 use perm_tree::ast::Span;
 use perm_tree::bodies::{Argument, Bodies, Expression, Operation, Step};
-use perm_tree::errors::TrapKind;
+use perm_tree::errors::{NoMemory, TrapKind};
+use std::alloc::Global;
 use std::marker::Model;
 
 /// An open call: the place of its statement, and where its caller's variables begin.
@@ -87,6 +89,33 @@ pub struct Leaf {
 }
 
 impl Control {
+    /// Enters `Run` on the object of `Main` and the input, by their words.
+    pub fn enter(
+        alloc: Global,
+        bodies: &Bodies,
+        root: u64,
+        input: u64,
+        turns: u64,
+    ) -> Result<Control, NoMemory>
+        requires there { bodies.now.run < length bodies.now.entries }
+        ensures { IfOk result (IsEntered bodies.now root input turns) }
+    {
+        let entry = bodies.entries.as_slice()[bodies.run as usize];
+        let mut vars = vec![in alloc; 0; entry.variables as usize]?;
+        set_word(&mut vars, 0, root);
+        set_word(&mut vars, 1, input);
+        Ok(Control {
+            at: entry.first,
+            base: 0,
+            calls: Vec::new(alloc),
+            vars,
+            printed: Vec::new(alloc),
+            depth: 1,
+            turns,
+            values: Vec::new(alloc),
+        })
+    }
+
     /// The step that comes next.
     #[inline(always)]
     pub fn step<'a>(&self, bodies: &'a Bodies) -> &'a Step

@@ -5,11 +5,13 @@ mod alone;
 mod ask;
 mod calls;
 mod control;
+mod ctl;
 mod heap;
 mod leaf;
 mod pars;
-mod room;
+mod spare;
 mod tell;
 mod values;
 
 pub use alone::run_alone;
+pub use ctl::{Ctl, Op, fork, next, room, start};

@@ -1,18 +1,17 @@
 -- The words of the opening, and the branch that is about to run.
-use Rattle.std.proofs.Common.{◌≡◌, ℕ, zero, suc, ◌+◌, ◌<◌, ◌≤◌, List, [], ◌∷◌, ◌++◌, length, get_or, replicate, Some, refl, sym, ap, ◌∙◌, inl, inr, Vec, arith, length-append, length-set}
-use Rattle.std.specs.Prelude.{ℤ, pos, ◌⊎◌, slice_get, slice_set}
+use Rattle.std.proofs.Common.{◌≡◌, ℕ, zero, suc, ◌+◌, ◌<◌, ◌≤◌, List, [], ◌∷◌, ◌++◌, length, get_or, replicate, refl, sym, ap, ◌∙◌, inl, inr, Vec, subst, arith, length-append, length-set}
+use Rattle.std.specs.Prelude.{ℤ, pos, ◌⊎◌, slice_set}
 use Rattle.std.specs.Vec.{with_items}
 use Rattle.std.proofs.lemmas.Bool.{cases_lt}
 use Rattle.std.proofs.lemmas.List.{length-replicate, with_items_is}
 use Rattle.perm_tree.specs.declared.bodies.Bodies.{Bodies}
-use Rattle.perm_tree.specs.declared.bodies.Entry.{Entry}
 use Rattle.perm_meaning.specs.Objects.{size}
 use Rattle.perm_meaning.specs.WordHeap.{opening_word, input_word, root_word}
 use Rattle.perm_meaning.specs.Words.{number_word, reference_word}
 use Rattle.perm_meaning.proofs.OnWords.OpeningShown.{past-input}
 use Rattle.perm_step.specs.declared.ask.Ask.TheVariants as asks
 use Rattle.perm_step.specs.Heaps.{Answers, Heaped, IsWritten}
-use Rattle.perm_step.specs.Opens.{IsOpened}
+use Rattle.perm_step.specs.Opens.{IsEntered, IsOpened}
 use Rattle.perm_step.specs.Working.{Working}
 use Rattle.perm_step.proofs.WordMachine.Cells.{more_words}
 
@@ -82,30 +81,14 @@ module _ (fields : ℕ) (input : List ℤ) (array root : ℕ) (old made written 
 pub written-variable : {Z : Type 0} (v : Vec ℕ Z) (vs ws : List ℕ) (at w : ℕ) → v.items ≡ vs → ws ≡ slice_set v.items at w → (with_items v ws).items ≡ slice_set vs at w
 written-variable v vs ws at w items written = with_items_is v ws (ap length written ∙ length-set v.items at w ∙ sym v.ok.0) ∙ written ∙ ap (λ (xs : List ℕ). slice_set xs at w) items
 
--- a control that stands at the first step of `Run`, with its first variables
-pub record Begins (entry : Entry) (array root spendable : ℕ) (c : Working) : Type 0 where
-  pub at : c.at ≡ entry.first
-  pub base : c.base ≡ 0
-  pub calls : c.calls ≡ []
-  pub vars : c.vars ≡ slice_set (slice_set (replicate entry.variables 0) 0 root) 1 array
-  pub printed : c.printed ≡ []
-  pub depth : c.depth ≡ 1
-  pub turns : c.turns ≡ spendable
-
 -- so a run is opened
-pub made-opened : (b : Bodies) (input : List ℤ) (turns array root : ℕ) (entry : Entry) (old made written last : Heaped) (c : Working) → slice_get b.entries b.run ≡ Some entry → IsMade b.fields input array root old made written last → Begins entry array root turns c
-    → IsOpened b input turns old.limit c last
-made-opened b input turns array root entry old made written last c here x begins =
-    let vars : c.vars ≡ slice_set (slice_set (replicate entry.variables 0) 0 (root_word input)) 1 (input_word input) =
-    begins.vars ∙ (λ j. slice_set (slice_set (replicate entry.variables 0) 0 (made-root b.fields input array root old made written last x j)) 1 (made-array b.fields input array root old made written last x j)) in
-    record {
-      entry = entry;
-      here = here;
-      room = c.room;
-      control = λ j. record { at = begins.at j; base = begins.base j; calls = begins.calls j; vars = vars j; printed = begins.printed j; depth = begins.depth j; turns = begins.turns j; room = c.room };
-      words = made-opening b.fields input array root old made written last x;
-      given = made-given b.fields input array root old made written last x;
-      fits = made-fits b.fields input array root old made written last x;
-      numbers = x.writing.fit;
-      same = made-same b.fields input array root old made written last x;
-    }
+pub made-opened : (b : Bodies) (input : List ℤ) (turns array root : ℕ) (old made written last : Heaped) (c : Working) → IsMade b.fields input array root old made written last → IsEntered b root array turns c → IsOpened b input turns old.limit c last
+made-opened b input turns array root old made written last c x enters = record {
+  entered = subst (λ w. IsEntered b w (input_word input) turns c) (made-root b.fields input array root old made written last x)
+      (subst (λ w. IsEntered b root w turns c) (made-array b.fields input array root old made written last x) enters);
+  words = made-opening b.fields input array root old made written last x;
+  given = made-given b.fields input array root old made written last x;
+  fits = made-fits b.fields input array root old made written last x;
+  numbers = x.writing.fit;
+  same = made-same b.fields input array root old made written last x;
+}

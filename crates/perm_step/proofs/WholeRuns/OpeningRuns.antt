@@ -23,7 +23,7 @@ use Rattle.perm_step.specs.declared.alone.Run.{Run}
 use Rattle.perm_step.specs.Events.{bottom_from, AreLong, IsSound}
 use Rattle.perm_step.specs.Heaps.{Heaped}
 use Rattle.perm_step.specs.Holding.{Aside}
-use Rattle.perm_step.specs.Opens.{opening_size, IsOpened}
+use Rattle.perm_step.specs.Opens.{opening_size, IsEntered, IsOpened}
 use Rattle.perm_step.specs.Running.{IsRunning}
 use Rattle.perm_step.specs.Runs.{asides_of, AreKept, HasFewVariables, IsComing, IsSoundLeaf, Opening}
 use Rattle.perm_step.specs.Standing.{below_of, branch_at, branch_of, leaf_branch, opens_of, AreOpenCalls}
@@ -65,7 +65,7 @@ module _ (u : UnitCode) (b : Bodies) (w : AreBodiesOf u b) (checked : IsChecked 
   pub same-need : opening_need u input ≡ opening_size b input
   same-need = ap (λ n. size (length input) + size n) main-fields
 
-  module _ (turns limit : ℕ) (c : Working) (h : Heaped) (o : IsOpened b input turns limit c h) where
+  module _ (turns : ℕ) (c : Working) (o : IsEntered b (root_word input) (input_word input) turns c) where
     -- it has the same number in the bodies
     here : slice_get u.routines b.run ≡ Some first
     here = ap (slice_get u.routines) w.run ∙ checked.whole.there
@@ -97,24 +97,18 @@ module _ (u : UnitCode) (b : Bodies) (w : AreBodiesOf u b) (checked : IsChecked 
     length-first = let at_least = two in let zeros = length-replicate {A = ℕ} (length first.vars - 2) 0 in omega arith
 
     -- so it is the branch of the opening
-    opened-branch : opening_branch u input turns first ≡ branch_of w.spot c
+    pub opened-branch : opening_branch u input turns first ≡ branch_of w.spot c
     opened-branch =
         ap (λ (vs : List ℕ). let x : Branch = record (opening_branch u input turns first) { own = record (opening_branch u input turns first).own { vars = vs } } in x) (sym first-locals)
         ∙ ap (λ (s : Spot). branch_at s [] (locals c) 1 [] turns) (sym spot-is)
         ∙ sym (ap (λ (d : Working). branch_at (w.spot c.at) (below_of w.spot d) (locals c) d.depth d.printed d.turns) o.control)
-
-    -- on the words of the opening
-    opened-cells : ◌≡◌ {A = Cells} (record { word = opening_word input; given = opening_need u input }) (cells_of h.words)
-    opened-cells =
-        let given : opening_need u input ≡ length h.words = same-need ∙ sym o.given in
-        λ j. record { word = λ i. sym (o.words i) j; given = given j }
 
     -- no call is open
     no-calls : c.calls ≡ []
     no-calls = ap (λ (c : Working). c.calls) o.control
 
     -- so the branch is sound
-    opened-sound : IsSound u w.spot b u.run c
+    pub opened-sound : IsSound u w.spot b u.run c
     opened-sound = record {
       here = subst (λ n. n < length b.steps) (sym place) stands.0;
       calls = subst (AreOpenCalls b) (sym no-calls) (λ i call is. absurd (let none = slice_get_within [] i call is in omega arith));
@@ -128,7 +122,14 @@ module _ (u : UnitCode) (b : Bodies) (w : AreBodiesOf u b) (checked : IsChecked 
       deep = let deep = ap (λ (d : Working). d.depth) o.control in omega arith;
     }
 
-    -- ---------- the run that begins ----------
+  -- ---------- the run that begins ----------
+  module _ (turns limit : ℕ) (c : Working) (h : Heaped) (o : IsOpened b input turns limit c h) where
+    -- on the words of the opening
+    opened-cells : ◌≡◌ {A = Cells} (record { word = opening_word input; given = opening_need u input }) (cells_of h.words)
+    opened-cells =
+        let given : opening_need u input ≡ length h.words = same-need ∙ sym o.given in
+        λ j. record { word = λ i. sym (o.words i) j; given = given j }
+
     -- the unit with its input
     abbrev pub opening : HasFewVariables u → turns ≤ 2 ^ 40 → limit ≤ 4194304 → Opening
     opening slim few small = record {
@@ -148,9 +149,9 @@ module _ (u : UnitCode) (b : Bodies) (w : AreBodiesOf u b) (checked : IsChecked 
     pub opened-comes : (slim : HasFewVariables u) (few : turns ≤ 2 ^ 40) (small : limit ≤ 4194304) (r : Run) → r.leaf ≡ record { control = c; ending = None } → r.waiting.items ≡ [] → r.heap ≡ h → IsComing (opening slim few small) b r
     opened-comes slim few small r leaf waiting heap =
         let kept : [] ≡ asides_of w.spot (reverse r.waiting.items) = ap (λ ws. asides_of w.spot (reverse ws)) (sym waiting) in
-        let branch : opening_branch u input turns first ≡ leaf_branch w.spot r.leaf = opened-branch ∙ ap (leaf_branch w.spot) (sym leaf) in
+        let branch : opening_branch u input turns first ≡ leaf_branch w.spot r.leaf = opened-branch turns c o.entered ∙ ap (leaf_branch w.spot) (sym leaf) in
         let cells : ◌≡◌ {A = Cells} (record { word = opening_word input; given = opening_need u input }) (cells_of r.heap.words) = opened-cells ∙ ap (λ (i : Heaped). cells_of i.words) (sym heap) in
-        let sound : IsSoundLeaf u w.spot b u.run (record { control = c; ending = None }) = record { here = opened-sound.here; sound = λ none. opened-sound } in
+        let sound : IsSoundLeaf u w.spot b u.run (record { control = c; ending = None }) = record { here = (opened-sound turns c o.entered).here; sound = λ none. opened-sound turns c o.entered } in
         record {
           bodies = w;
           running = running-along u limit input turns first [] (asides_of w.spot (reverse r.waiting.items)) (opening_branch u input turns first) (leaf_branch w.spot r.leaf) (record { word = opening_word input; given = opening_need u input }) (cells_of r.heap.words) kept branch cells
