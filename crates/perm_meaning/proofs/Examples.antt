@@ -2,3 +2,4 @@
 pub mod Shown
 mod Outcomes
 mod LeftFirst
+mod Tied

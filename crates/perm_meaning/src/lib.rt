@@ -1,6 +1,7 @@
 //! What a program means: what a run comes to.
 #![tactic(auto)]
 
+pub mod eval;
 pub mod laws;
 
 use perm_tree::ast::Span;

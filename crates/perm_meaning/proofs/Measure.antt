@@ -1,0 +1,102 @@
+-- Each step leaves less of a run.
+use Rattle.std.proofs.Common.{◌≡◌, ℕ, suc, ◌+◌, ◌-◌, ◌*◌, ◌/◌, ◌<◌, ◌≤◌, true, false, List, Option, Some, None, sym, ap, arith}
+use Rattle.perm_tree.specs.declared.ast.Span.{Span}
+use Rattle.perm_meaning.specs.declared.eval.control.Tested.{Tested}
+use Rattle.perm_meaning.specs.declared.eval.control.Tested.TheVariants as tests
+use Rattle.perm_meaning.specs.declared.eval.frames.Caller.{Caller}
+use Rattle.perm_meaning.specs.declared.eval.frames.Final as ending
+use Rattle.perm_meaning.specs.declared.eval.frames.Final.TheVariants as finals
+use Rattle.perm_meaning.specs.declared.eval.frames.Frame.TheVariants as frames
+use Rattle.perm_meaning.specs.declared.eval.frames.Parent.{Parent}
+use Rattle.perm_meaning.specs.declared.eval.frames.Spot.{Spot}
+use Rattle.perm_meaning.specs.declared.eval.parts.Part.{Part}
+use Rattle.perm_meaning.specs.declared.eval.state.Fate.{Fate}
+use Rattle.perm_meaning.specs.declared.eval.state.Fate.TheVariants as fates
+use Rattle.perm_meaning.specs.declared.eval.state.State.{State}
+use Rattle.perm_meaning.specs.declared.eval.values.Value.{Value}
+use Rattle.perm_meaning.specs.Control.{if_control, recover_control, while_control}
+use Rattle.perm_meaning.specs.Measure.{fate_weight, left_of_run, left_with, turns_at, waiting_ends, waiting_turns}
+use Rattle.perm_meaning.specs.State.{behind_block, behind_call, final_of, joined_at, joined_fate, right_at, split_at, test_fate}
+
+-- ---------- sums ----------
+-- a turn less outweighs a frame more and any fate
+turn-less : (t n e w f : ℕ) → w ≤ 4 → f ≤ 1 → 8 * (t + (0 + n)) + ((w + e) + f) < 8 * (suc t + n) + (e + 1)
+turn-less t n e w f le lt = omega (arith, le, lt)
+
+-- a turn less alone
+turn-spent : (t n e f : ℕ) → f ≤ 1 → 8 * (t + n) + (e + f) < 8 * (suc t + n) + (e + 1)
+turn-spent t n e f lt = omega (arith, lt)
+
+-- ---------- turns ----------
+-- an `if` leaves less
+pub if-less : (s : State) (t i : ℕ) (q : Tested) (at : Span) → left_of_run (record s { turns = t; control = if_control i q s.control }) (test_fate at q) < left_of_run (record s { turns = suc t }) fates.Goes
+if-less s t i (tests.Decides true) at = turn-less t (waiting_turns s.control.frames) (waiting_ends s.control.frames) 2 1 (omega arith) (omega arith)
+if-less s t i (tests.Decides false) at = turn-less t (waiting_turns s.control.frames) (waiting_ends s.control.frames) 2 1 (omega arith) (omega arith)
+if-less s t i (tests.Halts k) at = turn-spent t (waiting_turns s.control.frames) (waiting_ends s.control.frames) 0 (omega arith)
+if-less s t i tests.Sticks at = turn-spent t (waiting_turns s.control.frames) (waiting_ends s.control.frames) 0 (omega arith)
+
+-- so does a `while`
+pub while-less : (s : State) (t i : ℕ) (q : Tested) (at : Span) → left_of_run (record s { turns = t; control = while_control i q s.control }) (test_fate at q) < left_of_run (record s { turns = suc t }) fates.Goes
+while-less s t i (tests.Decides true) at = turn-less t (waiting_turns s.control.frames) (waiting_ends s.control.frames) 2 1 (omega arith) (omega arith)
+while-less s t i (tests.Decides false) at = turn-spent t (waiting_turns s.control.frames) (waiting_ends s.control.frames) 1 (omega arith)
+while-less s t i (tests.Halts k) at = turn-spent t (waiting_turns s.control.frames) (waiting_ends s.control.frames) 0 (omega arith)
+while-less s t i tests.Sticks at = turn-spent t (waiting_turns s.control.frames) (waiting_ends s.control.frames) 0 (omega arith)
+
+-- so does a recover block
+pub recover-less : (s : State) (t i : ℕ) → left_of_run (record s { turns = t; control = recover_control i s.control }) fates.Goes < left_of_run (record s { turns = suc t }) fates.Goes
+recover-less s t i = turn-less t (waiting_turns s.control.frames) (waiting_ends s.control.frames) 2 1 (omega arith) (omega arith)
+
+-- the turns of both sides are those of the par
+halves : (t : ℕ) → (t - t / 2) + t / 2 ≡ t
+halves t = omega arith
+
+-- so does a par
+pub par-less : (s : State) (t i : ℕ) → left_of_run (split_at i (record s { turns = t })) fates.Goes < left_of_run (record s { turns = suc t }) fates.Goes
+par-less s t i = par-sum t (t / 2) (waiting_turns s.control.frames) (waiting_ends s.control.frames) (halves t)
+  where
+    par-sum : (t h n e : ℕ) → (t - h) + h ≡ t → 8 * ((t - h) + (h + n)) + ((4 + e) + 1) < 8 * (suc t + n) + (e + 1)
+    par-sum t h n e q = omega (arith, q)
+
+-- a statement with no turn left fails, and any other end of a part does as well
+pub end-less : (s : State) (f : Fate) → fate_weight f ≡ 0 → left_of_run s f < left_of_run s fates.Goes
+end-less s f e = omega (arith, e)
+
+-- ---------- ends ----------
+-- behind a block less is left
+pub block-less : (s : State) (p : Part) (rest : Spot) (vs : List (Option Value)) (f : Fate) → left_of_run (behind_block rest vs s) fates.Goes < left_with (frames.Block p rest) s f
+block-less s p rest vs f = omega arith
+
+-- behind a recover block
+pub recover-end-less : (s : State) (p : Part) (rest : Spot) (vs : List (Option Value)) (f : Fate) → left_of_run (behind_block rest vs s) fates.Goes < left_with (frames.Recover p rest) s f
+recover-end-less s p rest vs f = omega arith
+
+-- behind a call
+pub call-less : (s : State) (c : Caller) (vs : List (Option Value)) (f : Fate) → left_of_run (behind_call c vs s) fates.Goes < left_with (frames.Call c) s f
+call-less s c vs f = omega arith
+
+-- where the right side of a par begins, at the turns that the left one has left
+pub right-less : (s : State) (p : Parent) (left : ending.Final) (f : Fate) → turns_at left ≡ s.turns → left_of_run (right_at p left s) fates.Goes < left_with (frames.Left p) s f
+right-less s p left f e = omega (arith, e)
+
+-- an end of a side leaves the turns of its state
+pub final-turns : (s : State) (f : Fate) (x : ending.Final) → final_of s f ≡ Some x → turns_at x ≡ s.turns
+final-turns s fates.Closes x e = sym (ap (λ (o : Option ending.Final). turns_if s.turns o) e)
+  where
+    turns_if : ℕ → Option ending.Final → ℕ
+    turns_if d None = d
+    turns_if d (Some x) = turns_at x
+final-turns s (fates.Fails k) x e = sym (ap (λ (o : Option ending.Final). turns_if s.turns o) e)
+  where
+    turns_if : ℕ → Option ending.Final → ℕ
+    turns_if d None = d
+    turns_if d (Some x) = turns_at x
+final-turns s fates.Goes x e = absurd (cc)
+final-turns s (fates.Gives v y) x e = absurd (cc)
+final-turns s (fates.Returns v) x e = absurd (cc)
+final-turns s fates.Full x e = absurd (cc)
+final-turns s fates.Sticks x e = absurd (cc)
+
+-- behind a par, whose sides' turns come back
+pub join-less : (s : State) (p : Parent) (left end : ending.Final) (f : Fate) → turns_at end ≡ turns_at left + s.turns → left_of_run (joined_at p end s) (joined_fate end) < left_with (frames.Right p left) s f
+join-less s p left (finals.Fine vs t out) f e = omega (arith, e)
+join-less s p left (finals.Failed k t out) f e = omega (arith, e)
