@@ -17,7 +17,6 @@ use Rattle.perm_tree.specs.Places.{IsPlaced}
 use Rattle.perm_tree.specs.Resolves.{IsResolved}
 use Rattle.perm_tree.specs.UnitTables.{Tables}
 use Rattle.perm_tree.proofs.CodeLaws.{stmt_code-is}
-use Rattle.perm_meaning.specs.declared.eval.callers.Caller.{Caller}
 use Rattle.perm_meaning.specs.declared.eval.calls.Call.{Call}
 use Rattle.perm_meaning.specs.declared.eval.calls.Callee.TheVariants as callees
 use Rattle.perm_meaning.specs.declared.eval.own.Own as owned
@@ -79,18 +78,6 @@ routine-code u m r is there = go (method_at u m) refl
         let x = routine-there u m d is e in
         ap (λ (q : Routine). q.code) (some-inj (sym there ∙ x.1.there)) ∙ x.1.code
 
--- ---------- what waits ----------
--- of a caller only its variables and its method matter
-pub callers-alike : (u : UnitCode) (fits : ℕ → Bool) (ws : List Waiting) (l k : Own) (into : Option ℕ) (rest : Code) (r : Result) → l.vars ≡ k.vars → l.routine ≡ k.routine
-    → resumed u fits (ForCall l into rest ∷ ws) r ≡ resumed u fits (ForCall k into rest ∷ ws) r
-callers-alike u fits ws l k into rest (Gave v m) vars routine =
-    (λ j. resumed u fits ws (whole u fits rest (record m { own = record m.own { vars = assign_into (vars j) into v; routine = routine j; depth = m.own.depth - 1 } })))
-callers-alike u fits ws l k into rest (Well m) vars routine = refl
-callers-alike u fits ws l k into rest (Handed x v m) vars routine = refl
-callers-alike u fits ws l k into rest (Fails e t p h) vars routine = refl
-callers-alike u fits ws l k into rest Full vars routine = refl
-callers-alike u fits ws l k into rest Stuck vars routine = refl
-
 -- ---------- turns ----------
 -- what a branch has in the method of a call
 abbrev pub inside : owned.Own → Call → owned.Own
@@ -117,12 +104,3 @@ module _ (u : Tables) (fits : ℕ → Bool) (ws : List Waiting) (t : ℕ) (h : H
   pub call-stuck : IsCallOf names (code_of u) (own_by names mark new) callees.Sticks (effect tagged (code_of u) marks i (own_by names mark old))
       → resumed (code_of u) fits ws (whole (code_of u) fits (Do at i rest) (record { turns = suc t; own = own_by names mark old; heap = h })) ≡ Stuck
   call-stuck b = simple-sticks (code_of u) fits ws t (own_by names mark old) h at i rest b
-
-  -- a value comes back to the caller
-  pub call-comes-back : (c : Caller) (v : Value) (l : Own) → l.vars ≡ all_by names c.vars → l.routine ≡ c.«method»
-      → own_by names mark new ≡ record (own_by names mark old) { vars = assign_into (all_by names c.vars) c.into (Some (value_by names v)); routine = c.«method»; depth = old.depth - 1 }
-      → resumed (code_of u) fits (ForCall l c.into rest ∷ ws) (Gave (Some (value_by names v)) (record { turns = t; own = own_by names mark old; heap = h }))
-      ≡ resumed (code_of u) fits ws (whole (code_of u) fits rest (record { turns = t; own = own_by names mark new; heap = h }))
-  call-comes-back c v l vars routine is =
-      (λ j. resumed (code_of u) fits ws (whole (code_of u) fits rest (record { turns = t; own = record (own_by names mark old) { vars = assign_into (vars j) c.into (Some (value_by names v)); routine = routine j; depth = old.depth - 1 }; heap = h })))
-      ∙ ap (λ (x : Own). resumed (code_of u) fits ws (whole (code_of u) fits rest (record { turns = t; own = x; heap = h }))) (sym is)

@@ -22,12 +22,12 @@ use Rattle.perm_meaning.specs.declared.eval.parts.Part.TheVariants as parts
 use Rattle.perm_meaning.specs.Control.{behind, if_control, recover_control, start, while_control, TestsAs}
 use Rattle.perm_meaning.specs.Effects.{depth_limit}
 use Rattle.perm_meaning.specs.Expressions.{eval, tagged}
-use Rattle.perm_meaning.specs.Frames.{code_at, own_in, OneStands, AmountsTo}
+use Rattle.perm_meaning.specs.Frames.{code_at, OneStands, AmountsTo}
 use Rattle.perm_meaning.specs.Machine.{Trapped}
 use Rattle.perm_meaning.specs.Meaning.{Result, Fails, Stuck}
 use Rattle.perm_meaning.specs.NamedHeap.{Heap, Own}
 use Rattle.perm_meaning.specs.Numbered.{Names}
-use Rattle.perm_meaning.specs.Parts.{first_if, second_if, stmts_in}
+use Rattle.perm_meaning.specs.Parts.{first_if, second_if, stmts_in, own_in}
 use Rattle.perm_meaning.specs.Waiting.{Waiting, ForBlock, ForRecover, resumed}
 use Rattle.perm_meaning.specs.Whole.{whole}
 use Rattle.perm_meaning.proofs.Parts.{code-if, code-next, code-par, code-recover, code-while}

@@ -17,14 +17,17 @@ use Rattle.perm_meaning.specs.declared.eval.values.Value.{Value}
 use Rattle.perm_meaning.specs.Control.{start}
 use Rattle.perm_meaning.specs.Custody.{merged, writes_l, writes_r}
 use Rattle.perm_meaning.specs.Expressions.{assign, assign_into, clear_all, tagged}
-use Rattle.perm_meaning.specs.Frames.{blocks_at, code_at, failure_of, final_by, method_behind, moment_by, own_in, AllStand, NoneStands, OneStands, AmountsTo, StandsFor, WaitsForCall, WaitsForLeft, WaitsForRight}
+use Rattle.perm_meaning.specs.Frames.{code_at, failure_by, final_by, method_behind, AllStand, NoneStands, OneStands, AmountsTo, StandsFor, WaitsForCall, WaitsForLeft, WaitsForRight}
 use Rattle.perm_meaning.specs.Machine.{Failure, join_final}
 use Rattle.perm_meaning.specs.Meaning.{Moment, Result, Well, Gave, Handed, Fails, Full, Stuck, after_join, on_final, right_of, set_vars, then_do}
 use Rattle.perm_meaning.specs.Names.{after_par}
 use Rattle.perm_meaning.specs.NamedHeap.{Final, Heap, Held}
 use Rattle.perm_meaning.specs.Numbered.{all_by, Names}
+use Rattle.perm_meaning.specs.Parts.{own_in}
+use Rattle.perm_meaning.specs.Tied.{moment_by}
 use Rattle.perm_meaning.specs.Waiting.{Waiting, ForBlock, ForRecover, ForCall, ForLeft, ForRight, after_waiting, resumed}
 use Rattle.perm_meaning.specs.Whole.{whole}
+use Rattle.perm_meaning.specs.Writes.{par_at}
 use Rattle.perm_meaning.proofs.Waiting.{resumed-full, resumed-stuck}
 
 module _ (u : Tables) (fits : ℕ → Bool) (names : Names) where
@@ -96,10 +99,10 @@ module _ (u : Tables) (fits : ℕ → Bool) (names : Names) where
 
     -- the right side runs behind the left one, well or not
     pub left-ends : (p : Parent) (st : WaitsForLeft u names p w) (x : Result) (left : ending.Final) (h : Heap) → IsFinal x (final_by names left) h → Ends (frames.Left p) x
-        → AmountsTo u fits names p.own.«method» (frames.Right p left ∷ fs) (ForRight (blocks_at u p.own.«method» p.stmt) (moment_by names st.mark st.heap p.turns p.own) (final_by names left) (code_at u p.own.«method» p.rest) ∷ ws)
+        → AmountsTo u fits names p.own.«method» (frames.Right p left ∷ fs) (ForRight (par_at u p.own.«method» p.stmt) (moment_by names st.mark st.heap p.turns p.own) (final_by names left) (code_at u p.own.«method» p.rest) ∷ ws)
         (whole (code_of u) fits (code_at u p.own.«method» (start (parts.Second p.stmt))) (right_of (moment_by names st.mark st.heap p.turns p.own) h)) r
     left-ends p st x left h fin ends =
-        let b = blocks_at u p.own.«method» p.stmt in
+        let b = par_at u p.own.«method» p.stmt in
         let z = moment_by names st.mark st.heap p.turns p.own in
         let rest = code_at u p.own.«method» p.rest in
         let go = λ (x : Final) (h : Heap). on_final (whole (code_of u) fits b.right (right_of z h)) (λ y h1. after_join z (join_final (merged (writes_l b) (writes_r b)) z.own.vars z.own.printed x y) h1) in
@@ -110,14 +113,14 @@ module _ (u : Tables) (fits : ℕ → Bool) (names : Names) where
       -- how the par ends
       abbrev pub joined_by : Final
       joined_by =
-          let b = blocks_at u p.own.«method» p.stmt in
+          let b = par_at u p.own.«method» p.stmt in
           let z = moment_by names st.mark st.heap p.turns p.own in
           join_final (merged (writes_l b) (writes_r b)) z.own.vars z.own.printed (final_by names left) y
 
       by-join : (f : Final) → joined_by ≡ f
           → AmountsTo u fits names p.own.«method» fs ws (then_do (after_join (moment_by names st.mark st.heap p.turns p.own) f h) (whole (code_of u) fits (code_at u p.own.«method» p.rest))) r
       by-join f e =
-          let b = blocks_at u p.own.«method» p.stmt in
+          let b = par_at u p.own.«method» p.stmt in
           let z = moment_by names st.mark st.heap p.turns p.own in
           let rest = code_at u p.own.«method» p.rest in
           let go = λ (y : Final) (h : Heap). after_join z (join_final (merged (writes_l b) (writes_r b)) z.own.vars z.own.printed (final_by names left) y) h in
@@ -131,7 +134,7 @@ module _ (u : Tables) (fits : ℕ → Bool) (names : Names) where
       join-goes vs t out e = by-join (final_by names (finals.Fine vs t out)) e
 
       -- the par fails
-      pub join-fails : (e : failing.Failure) (t : ℕ) (out : List ℤ) → joined_by ≡ final_by names (finals.Failed e t out) → AmountsTo u fits names p.own.«method» fs ws (Fails (failure_of e) t out h) r
+      pub join-fails : (e : failing.Failure) (t : ℕ) (out : List ℤ) → joined_by ≡ final_by names (finals.Failed e t out) → AmountsTo u fits names p.own.«method» fs ws (Fails (failure_by e) t out h) r
       join-fails e t out q = by-join (final_by names (finals.Failed e t out)) q
 
     -- ---------- ends that nothing takes ----------
@@ -171,7 +174,7 @@ module _ (u : Tables) (fits : ℕ → Bool) (names : Names) where
     pub left-stuck : (p : Parent) (x : Result) → ((go : Final → Heap → Result) → on_final x go ≡ Stuck) → Ends (frames.Left p) x → Stuck ≡ r
     left-stuck p x q ends =
         let st : WaitsForLeft u names p w = innermost ends.stand in
-        stuck-by (frames.Left p) (ForLeft (blocks_at u p.own.«method» p.stmt) (moment_by names st.mark st.heap p.turns p.own) (code_at u p.own.«method» p.rest)) x st.is
+        stuck-by (frames.Left p) (ForLeft (par_at u p.own.«method» p.stmt) (moment_by names st.mark st.heap p.turns p.own) (code_at u p.own.«method» p.rest)) x st.is
         (ap (λ y. then_do y (whole (code_of u) fits (code_at u p.own.«method» p.rest))) (q _))
         ends
 
@@ -179,7 +182,7 @@ module _ (u : Tables) (fits : ℕ → Bool) (names : Names) where
     pub right-stuck : (p : Parent) (left : ending.Final) (x : Result) → ((go : Final → Heap → Result) → on_final x go ≡ Stuck) → Ends (frames.Right p left) x → Stuck ≡ r
     right-stuck p left x q ends =
         let st : WaitsForRight u names p left w = innermost ends.stand in
-        stuck-by (frames.Right p left) (ForRight (blocks_at u p.own.«method» p.stmt) (moment_by names st.mark st.heap p.turns p.own) (final_by names left) (code_at u p.own.«method» p.rest)) x st.is
+        stuck-by (frames.Right p left) (ForRight (par_at u p.own.«method» p.stmt) (moment_by names st.mark st.heap p.turns p.own) (final_by names left) (code_at u p.own.«method» p.rest)) x st.is
         (ap (λ y. then_do y (whole (code_of u) fits (code_at u p.own.«method» p.rest))) (q _))
         ends
 

@@ -16,7 +16,8 @@ use Rattle.perm_meaning.specs.declared.eval.ends.Ended.TheVariants.{Closes, Give
 use Rattle.perm_meaning.specs.declared.eval.parts.Part.TheVariants as parts
 use Rattle.perm_meaning.specs.declared.eval.values.Given.{Given}
 use Rattle.perm_meaning.specs.declared.eval.values.Value.{Value}
-use Rattle.perm_meaning.specs.Ends.{own_in, ended}
+use Rattle.perm_meaning.specs.Ends.{ended}
+use Rattle.perm_meaning.specs.Parts.{own_in}
 use Rattle.perm_meaning.specs.Expressions.{tagged, clear, clear_all, look_up, value_of}
 use Rattle.perm_meaning.specs.Meaning.{Moment, Result, Gave, Handed, does, on_value, set_vars}
 use Rattle.perm_meaning.specs.NamedHeap.{Heap, Held, Own}

@@ -4,12 +4,8 @@ pub mod CallTurns
 pub mod Calling
 pub mod Control
 pub mod Ended
-pub mod NewNames
-pub mod State
-pub mod Moving
-pub mod Opening
-pub mod Measure
-pub mod Routines
+pub mod Ending
+pub mod Ends
 pub mod Evaluating
 pub mod Examples
 pub mod Holder
@@ -18,11 +14,16 @@ pub mod Joined
 pub mod Leads
 pub mod LeftFirst
 pub mod Made
+pub mod Measure
 pub mod MovesAndCopies
+pub mod Moving
+pub mod NewNames
 pub mod OnWords
+pub mod Opening
 pub mod Parts
-pub mod Ends
+pub mod Routines
 pub mod SameName
+pub mod State
 pub mod Stored
 pub mod Tied
 pub mod Unborn
@@ -30,4 +31,3 @@ pub mod Unfolding
 pub mod UnitLiterals
 pub mod Waiting
 pub mod Writes
-pub mod Ending

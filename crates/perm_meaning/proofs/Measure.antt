@@ -15,7 +15,8 @@ use Rattle.perm_meaning.specs.declared.eval.state.Fate.TheVariants as fates
 use Rattle.perm_meaning.specs.declared.eval.state.State.{State}
 use Rattle.perm_meaning.specs.declared.eval.values.Value.{Value}
 use Rattle.perm_meaning.specs.Control.{if_control, recover_control, while_control}
-use Rattle.perm_meaning.specs.Measure.{fate_weight, left_of_run, left_with, turns_at, waiting_ends, waiting_turns}
+use Rattle.perm_meaning.specs.Frames.{turns_left}
+use Rattle.perm_meaning.specs.Measure.{fate_weight, left_of_run, left_with, waiting_ends, waiting_turns}
 use Rattle.perm_meaning.specs.State.{behind_block, behind_call, final_of, joined_at, joined_fate, right_at, split_at, test_fate}
 
 -- ---------- sums ----------
@@ -75,21 +76,21 @@ pub call-less : (s : State) (c : Caller) (vs : List (Option Value)) (f : Fate) �
 call-less s c vs f = omega arith
 
 -- where the right side of a par begins, at the turns that the left one has left
-pub right-less : (s : State) (p : Parent) (left : ending.Final) (f : Fate) → turns_at left ≡ s.turns → left_of_run (right_at p left s) fates.Goes < left_with (frames.Left p) s f
+pub right-less : (s : State) (p : Parent) (left : ending.Final) (f : Fate) → turns_left left ≡ s.turns → left_of_run (right_at p left s) fates.Goes < left_with (frames.Left p) s f
 right-less s p left f e = omega (arith, e)
 
 -- an end of a side leaves the turns of its state
-pub final-turns : (s : State) (f : Fate) (x : ending.Final) → final_of s f ≡ Some x → turns_at x ≡ s.turns
+pub final-turns : (s : State) (f : Fate) (x : ending.Final) → final_of s f ≡ Some x → turns_left x ≡ s.turns
 final-turns s fates.Closes x e = sym (ap (λ (o : Option ending.Final). turns_if s.turns o) e)
   where
     turns_if : ℕ → Option ending.Final → ℕ
     turns_if d None = d
-    turns_if d (Some x) = turns_at x
+    turns_if d (Some x) = turns_left x
 final-turns s (fates.Fails k) x e = sym (ap (λ (o : Option ending.Final). turns_if s.turns o) e)
   where
     turns_if : ℕ → Option ending.Final → ℕ
     turns_if d None = d
-    turns_if d (Some x) = turns_at x
+    turns_if d (Some x) = turns_left x
 final-turns s fates.Goes x e = absurd (cc)
 final-turns s (fates.Gives v y) x e = absurd (cc)
 final-turns s (fates.Returns v) x e = absurd (cc)
@@ -97,6 +98,6 @@ final-turns s fates.Full x e = absurd (cc)
 final-turns s fates.Sticks x e = absurd (cc)
 
 -- behind a par, whose sides' turns come back
-pub join-less : (s : State) (p : Parent) (left end : ending.Final) (f : Fate) → turns_at end ≡ turns_at left + s.turns → left_of_run (joined_at p end s) (joined_fate end) < left_with (frames.Right p left) s f
+pub join-less : (s : State) (p : Parent) (left end : ending.Final) (f : Fate) → turns_left end ≡ turns_left left + s.turns → left_of_run (joined_at p end s) (joined_fate end) < left_with (frames.Right p left) s f
 join-less s p left (finals.Fine vs t out) f e = omega (arith, e)
 join-less s p left (finals.Failed k t out) f e = omega (arith, e)

@@ -11,9 +11,9 @@ use Rattle.perm_tree.specs.declared.ast.StmtKind.{StmtKind}
 use Rattle.perm_tree.specs.declared.ast.StmtKind.TheVariants as kinds
 use Rattle.perm_tree.specs.declared.ast.Ty.{Ty}
 use Rattle.perm_tree.specs.declared.errors.TrapKind.TheVariants.{StackOverflow}
-use Rattle.perm_tree.specs.Code.{Code}
+use Rattle.perm_tree.specs.Code.{Code, End}
 use Rattle.perm_tree.specs.CodeNames.{Setting, term_at}
-use Rattle.perm_tree.specs.CodeOf.{code_of, codes_of, kind_code}
+use Rattle.perm_tree.specs.CodeOf.{block_code, code_of, codes_of, kind_code}
 use Rattle.perm_tree.specs.InBody.{setting_at}
 use Rattle.perm_tree.specs.Places.{IsPlaced}
 use Rattle.perm_tree.specs.UnitTables.{Tables}
@@ -27,21 +27,29 @@ use Rattle.perm_meaning.specs.declared.eval.state.State.{State}
 use Rattle.perm_meaning.specs.Control.{behind, if_control, recover_control, start, while_control, TestsAs}
 use Rattle.perm_meaning.specs.Effects.{depth_limit}
 use Rattle.perm_meaning.specs.Expressions.{eval, tagged}
-use Rattle.perm_meaning.specs.Frames.{blocks_at, code_at, moment_by, own_in, AmountsTo, OneStands}
-use Rattle.perm_meaning.specs.Meaning.{Result}
+use Rattle.perm_meaning.specs.Frames.{code_at, AmountsTo, OneStands}
+use Rattle.perm_meaning.specs.Meaning.{Result, left_of}
 use Rattle.perm_meaning.specs.Names.{Mark, OnLeft, side_mark}
 use Rattle.perm_meaning.specs.NamedHeap.{Heap}
 use Rattle.perm_meaning.specs.Numbered.{all_by, Names}
-use Rattle.perm_meaning.specs.Parts.{end_in, stmts_in}
+use Rattle.perm_meaning.specs.Parts.{end_in, first_end, first_end_if, own_in, stmts_in}
 use Rattle.perm_meaning.specs.Simple.{own_by}
 use Rattle.perm_meaning.specs.State.{comes_to, split_at, test_fate, Moves}
 use Rattle.perm_meaning.specs.Waiting.{Waiting, ForLeft, resumed}
+use Rattle.perm_meaning.specs.Tied.{moment_by}
+use Rattle.perm_meaning.specs.Turns.{blocks}
 use Rattle.perm_meaning.specs.Whole.{whole}
+use Rattle.perm_meaning.specs.Writes.{par_at}
 use Rattle.perm_meaning.proofs.Control as control
 use Rattle.perm_meaning.proofs.NewNames.{split-new}
 use Rattle.perm_meaning.proofs.Parts.{code-end, code-next}
 use Rattle.perm_meaning.proofs.Waiting as waiting
 use Rattle.perm_meaning.proofs.Waiting.{IsDue}
+
+-- ---------- pars ----------
+-- the left block of a par has no end of its own
+left-open : (u : Tables) (m i : ℕ) (d : Stmt) (a b : Block) → slice_get u.program.stmts i ≡ Some d → d.kind ≡ kinds.Par a b → end_in u m (parts.First i) ≡ End
+left-open u m i d a b here e = ap (first_end_if (setting_at u m)) here ∙ ap (first_end (setting_at u m)) e
 
 -- ---------- no turns, and ends ----------
 -- the code of a statement is due
@@ -138,12 +146,13 @@ module _ (u : Tables) (s : State) where
             let z = moment_by names mark h t s.own in
             let news = split-new h.objects z ws new in (
               side_mark OnLeft mark,
-              ForLeft (blocks_at u m i) z (code_at u m (behind s.control.spot)) ∷ ws,
+              ForLeft (par_at u m i) z (code_at u m (behind s.control.spot)) ∷ ws,
               (news.0, refl, news.1, news.2),
               record {
                 stand = OneStands (record { mark = mark; heap = h; is = refl }) due.stand;
                 is =
-                    sym (waiting.par-left (code_of u) fits ws t (own_by names mark s.own) h d.head (own_in u m (parts.First i)) (code_at u m (start (parts.First i))) (own_in u m (parts.Second i)) (code_at u m (start (parts.Second i))) (code_at u m (behind s.control.spot)) q)
+                    ap (λ c. resumed (code_of u) fits (ForLeft (blocks (own_in u m (parts.First i)) (block_code (setting_at u m) (stmts_in u m (parts.First i)) c) (own_in u m (parts.Second i)) (code_at u m (start (parts.Second i)))) z (code_at u m (behind s.control.spot)) ∷ ws) (whole (code_of u) fits (code_at u m (start (parts.First i))) (left_of z))) (sym (left-open u m i d a b here e))
+                    ∙ sym (waiting.par-left (code_of u) fits ws t (own_by names mark s.own) h d.head (own_in u m (parts.First i)) (code_at u m (start (parts.First i))) (own_in u m (parts.Second i)) (code_at u m (start (parts.Second i))) (code_at u m (behind s.control.spot)) q)
                     ∙ ap (λ c. resumed (code_of u) fits ws (whole (code_of u) fits c (moment_by names mark h (suc t) s.own))) (sym (control.par-code u m s.control i d placed next here a b e))
                     ∙ due.is;
               },

@@ -12,7 +12,7 @@ use Rattle.perm_meaning.specs.declared.eval.parts.Part.TheVariants.{Body}
 use Rattle.perm_meaning.specs.declared.eval.state.State.{State}
 use Rattle.perm_meaning.specs.declared.eval.values.Value.TheVariants as held
 use Rattle.perm_meaning.specs.Control.{start}
-use Rattle.perm_meaning.specs.Frames.{code_at, moment_by, AmountsTo, NoneStands}
+use Rattle.perm_meaning.specs.Frames.{code_at, AmountsTo, NoneStands}
 use Rattle.perm_meaning.specs.Meaning.{Result}
 use Rattle.perm_meaning.specs.Names.{root_mark}
 use Rattle.perm_meaning.specs.NamedHeap.{Held}
@@ -21,6 +21,7 @@ use Rattle.perm_meaning.specs.Objects.{no_objects}
 use Rattle.perm_meaning.specs.Opening.{first_names, opening_control, opening_part}
 use Rattle.perm_meaning.specs.Outcome.{opening, opening_heap, opening_need, outcome, reported_result}
 use Rattle.perm_meaning.specs.Steps.{within}
+use Rattle.perm_meaning.specs.Tied.{moment_by}
 use Rattle.perm_meaning.specs.Waiting.{resumed}
 use Rattle.perm_meaning.specs.Whole.{whole}
 use Rattle.perm_meaning.proofs.Calling.{first-by}

@@ -19,13 +19,15 @@ use Rattle.perm_tree.specs.CodeOf.{code_of}
 use Rattle.perm_meaning.specs.Simple.{own_by}
 use Rattle.perm_meaning.specs.Objects.{Objects}
 use Rattle.perm_meaning.specs.Whole.{whole}
-use Rattle.perm_meaning.specs.Frames.{code_at, failure_of, moment_by, AmountsTo, WaitsForCall, WaitsForRight, final_by, WaitsForLeft}
+use Rattle.perm_meaning.specs.Frames.{code_at, failure_by, AmountsTo, WaitsForCall, WaitsForRight, final_by, WaitsForLeft}
 use Rattle.perm_meaning.specs.Meaning.{Result, Stuck, on_final, set_vars}
 use Rattle.perm_meaning.specs.Names.{Mark, Name, OnRight, after_par, side_mark}
 use Rattle.perm_meaning.specs.NamedHeap.{Final, Heap, Held}
+use Rattle.perm_meaning.specs.Joined.{IsJoined}
 use Rattle.perm_meaning.specs.NewNames.{AreNew}
 use Rattle.perm_meaning.specs.Numbered.{held_by, Names}
-use Rattle.perm_meaning.specs.State.{behind_block, behind_call, BeginsRight, comes_to, final_of, joined_at, joined_fate, left_call, right_at, Clears, ClearsAndTakes, Follows, IsEnd, JoinsAs, Takes}
+use Rattle.perm_meaning.specs.State.{behind_block, behind_call, BeginsRight, comes_to, final_of, joined_at, joined_fate, left_call, right_at, Clears, ClearsAndTakes, Follows, IsEnd, Takes}
+use Rattle.perm_meaning.specs.Tied.{moment_by}
 use Rattle.perm_meaning.proofs.Ended.{innermost, block-closes, block-fails, call-fails, call-gives, join-fails, join-goes, left-ends, left-stuck, recover-fails, recover-gives, right-stuck}
 use Rattle.perm_meaning.proofs.Leads.{some-inj, none-some}
 
@@ -77,14 +79,14 @@ behind-left u p old new f y end = go (final_of old f) refl
 -- ---------- behind a par ----------
 module _ (u : Tables) (p : Parent) (left : ending.Final) (old : State) (f : Fate) where
   -- a par whose sides have joined goes on or fails
-  pub right-follows : (right end : ending.Final) → final_of old f ≡ Some right → JoinsAs u p left right end → (own : Own) → Follows u (frames.Right p left) old f (joined_at p end (record old { own = own })) (joined_fate end)
+  pub right-follows : (right end : ending.Final) → final_of old f ≡ Some right → IsJoined u p.stmt p.own left right end → (own : Own) → Follows u (frames.Right p left) old f (joined_at p end (record old { own = own })) (joined_fate end)
   right-follows right (finals.Fine vs t out) e joins own fits names mark h w ws r new ends =
       let st : WaitsForRight u names p left w = innermost u fits names ends.stand in
       let is = subst (λ w. AreNew h.objects mark (w ∷ ws)) st.is new in (
         after_par st.mark,
         ws,
         is.2,
-        join-goes u fits names old.own.«method» old.control.frames w ws r p left st (comes_to u fits names mark h old f) (final_by names right) h (final-is u fits names mark h old f right e) ends vs t out (joins names),
+        join-goes u fits names old.own.«method» old.control.frames w ws r p left st (comes_to u fits names mark h old f) (final_by names right) h (final-is u fits names mark h old f right e) ends vs t out (sym (joins names)),
       )
   right-follows right (finals.Failed k t out) e joins own fits names mark h w ws r new ends =
       let st : WaitsForRight u names p left w = innermost u fits names ends.stand in
@@ -92,7 +94,7 @@ module _ (u : Tables) (p : Parent) (left : ending.Final) (old : State) (f : Fate
         after_par st.mark,
         ws,
         is.2,
-        join-fails u fits names old.own.«method» old.control.frames w ws r p left st (comes_to u fits names mark h old f) (final_by names right) h (final-is u fits names mark h old f right e) ends k t out (joins names),
+        join-fails u fits names old.own.«method» old.control.frames w ws r p left st (comes_to u fits names mark h old f) (final_by names right) h (final-is u fits names mark h old f right e) ends k t out (sym (joins names)),
       )
 
   -- what is no end of a side is stuck
@@ -118,13 +120,13 @@ module _ (u : Tables) (part : Part) (rest : Spot) (old : State) where
     mark,
     ws,
     subst (λ w. AreNew h.objects mark (w ∷ ws)) (innermost u fits names ends.stand) new,
-    block-fails u fits names old.own.«method» old.control.frames w ws r part rest (failure_of e) old.turns old.own.printed h ends,
+    block-fails u fits names old.own.«method» old.control.frames w ws r part rest (failure_by e) old.turns old.own.printed h ends,
   )
 
   -- the code goes on behind a recover block
-  pub recover-follows : (v : Option Value) (x : ℕ) (vs : List (Option Value)) → ClearsAndTakes u part old.own x v vs → Follows u (frames.Recover part rest) old (fates.Gives v x) (behind_block rest vs old) fates.Goes
+  pub recover-follows : (v : Value) (x : ℕ) (vs : List (Option Value)) → ClearsAndTakes u part old.own x v vs → Follows u (frames.Recover part rest) old (fates.Gives v x) (behind_block rest vs old) fates.Goes
   recover-follows v x vs takes fits names mark h w ws r new ends =
-      let a = recover-gives u fits names old.own.«method» old.control.frames w ws r part rest x (held_by names v) (moment_by names mark h old.turns old.own) ends in (
+      let a = recover-gives u fits names old.own.«method» old.control.frames w ws r part rest x (held_by names (Some v)) (moment_by names mark h old.turns old.own) ends in (
         mark,
         ws,
         subst (λ w. AreNew h.objects mark (w ∷ ws)) (innermost u fits names ends.stand) new,
@@ -137,7 +139,7 @@ module _ (u : Tables) (part : Part) (rest : Spot) (old : State) where
     mark,
     ws,
     subst (λ w. AreNew h.objects mark (w ∷ ws)) (innermost u fits names ends.stand) new,
-    recover-fails u fits names old.own.«method» old.control.frames w ws r part rest (failure_of e) old.turns old.own.printed h ends,
+    recover-fails u fits names old.own.«method» old.control.frames w ws r part rest (failure_by e) old.turns old.own.printed h ends,
   )
 
 -- ---------- behind calls ----------
@@ -147,9 +149,9 @@ module _ (u : Tables) (c : Caller) (old : State) where
   call-new objects mark names w ws st new = subst (λ w. AreNew objects mark (w ∷ ws)) st.is new
 
   -- the caller goes on with the value
-  pub call-follows : (v : Option Value) (vs : List (Option Value)) → Takes c v vs → Follows u (frames.Call c) old (fates.Returns v) (behind_call c vs old) fates.Goes
+  pub call-follows : (v : Value) (vs : List (Option Value)) → Takes c v vs → Follows u (frames.Call c) old (fates.Returns v) (behind_call c vs old) fates.Goes
   call-follows v vs takes fits names mark h w ws r new ends =
-      let a = call-gives u fits names old.own.«method» old.control.frames w ws r c (held_by names v) (moment_by names mark h old.turns old.own) ends in (
+      let a = call-gives u fits names old.own.«method» old.control.frames w ws r c (held_by names (Some v)) (moment_by names mark h old.turns old.own) ends in (
         mark,
         ws,
         call-new h.objects mark names w ws (innermost u fits names ends.stand) new,
@@ -165,5 +167,5 @@ module _ (u : Tables) (c : Caller) (old : State) where
     mark,
     ws,
     call-new h.objects mark names w ws (innermost u fits names ends.stand) new,
-    call-fails u fits names old.own.«method» old.control.frames w ws r c (failure_of e) old.turns old.own.printed h ends,
+    call-fails u fits names old.own.«method» old.control.frames w ws r c (failure_by e) old.turns old.own.printed h ends,
   )

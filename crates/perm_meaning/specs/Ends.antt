@@ -1,21 +1,12 @@
 -- How parts of methods end, and which variables lose their values there.
 use Rattle.std.specs.Prelude.{◌≡◌, ℕ, Bool, List, Option}
 use Rattle.perm_tree.specs.Code.{Code, UnitCode}
-use Rattle.perm_tree.specs.CodeNames.{own_vars}
-use Rattle.perm_tree.specs.InBody.{setting_at}
-use Rattle.perm_tree.specs.UnitTables.{Tables}
 use Rattle.perm_meaning.specs.declared.eval.ends.Ended.{Ended}
 use Rattle.perm_meaning.specs.declared.eval.ends.Ended.TheVariants.{Closes, Gives, Returns}
 use Rattle.perm_meaning.specs.declared.eval.own.Own.{Own}
-use Rattle.perm_meaning.specs.declared.eval.parts.Part.{Part}
 use Rattle.perm_meaning.specs.declared.eval.values.Value.{Value}
 use Rattle.perm_meaning.specs.Meaning.{Moment, Result, Well, Gave, Handed, does, on_value, set_vars, spend}
 use Rattle.perm_meaning.specs.Numbered.{all_by, given_by, Names}
-use Rattle.perm_meaning.specs.Parts.{stmts_in}
-
--- the variables that a part of a method itself declares
-abbrev pub own_in : Tables → ℕ → Part → List ℕ
-own_in u m p = own_vars (setting_at u m) (stmts_in u m p)
 
 -- what an end comes to at a moment, if the variables are these afterwards
 abbrev pub ended : Names → List (Option Value) → Ended → Moment → Result

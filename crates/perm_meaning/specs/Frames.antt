@@ -1,9 +1,7 @@
 -- What frames stand for: code that waits.
 use Rattle.std.specs.Prelude.{◌≡◌, ℕ, Bool, List, [], ◌∷◌}
-use Rattle.perm_tree.specs.CodeNames.{own_vars}
 use Rattle.perm_tree.specs.Code.{Code}
 use Rattle.perm_tree.specs.CodeOf.{code_of}
-use Rattle.perm_tree.specs.InBody.{setting_at}
 use Rattle.perm_tree.specs.UnitTables.{Tables}
 use Rattle.perm_meaning.specs.declared.eval.frames.Caller.{Caller}
 use Rattle.perm_meaning.specs.declared.eval.frames.Parent.{Parent}
@@ -15,46 +13,37 @@ use Rattle.perm_meaning.specs.declared.eval.frames.Frame.{Frame}
 use Rattle.perm_meaning.specs.declared.eval.frames.Frame.TheVariants as frames
 use Rattle.perm_meaning.specs.declared.eval.frames.Spot.{Spot}
 use Rattle.perm_meaning.specs.declared.eval.own.Own.{Own}
-use Rattle.perm_meaning.specs.declared.eval.parts.Part.{Part}
-use Rattle.perm_meaning.specs.declared.eval.parts.Part.TheVariants as parts
-use Rattle.perm_meaning.specs.Machine.{Blocks, Failure, Trapped, NoTurns, Fine, Failed}
-use Rattle.perm_meaning.specs.Meaning.{Moment, Result}
+use Rattle.perm_meaning.specs.Machine.{Failure, Trapped, NoTurns, Fine, Failed}
+use Rattle.perm_meaning.specs.Meaning.{Result}
 use Rattle.perm_meaning.specs.Names.{Mark}
 use Rattle.perm_meaning.specs.NamedHeap as heaps
 use Rattle.perm_meaning.specs.NamedHeap.{Heap}
 use Rattle.perm_meaning.specs.Numbered.{all_by, Names}
-use Rattle.perm_meaning.specs.Parts.{code_from, stmts_in}
-use Rattle.perm_meaning.specs.Simple.{own_by}
-use Rattle.perm_meaning.specs.Turns.{blocks}
+use Rattle.perm_meaning.specs.Parts.{code_from, own_in}
+use Rattle.perm_meaning.specs.Tied.{moment_by}
 use Rattle.perm_meaning.specs.Waiting.{Waiting, ForBlock, ForRecover, ForCall, ForLeft, ForRight, resumed}
+use Rattle.perm_meaning.specs.Writes.{par_at}
 
 -- ---------- code ----------
 -- the code from a place in a method on
 abbrev pub code_at : Tables → ℕ → Spot → Code
 code_at u m s = code_from u m s.part s.at
 
--- the variables that a part of a method itself declares
-abbrev pub own_in : Tables → ℕ → Part → List ℕ
-own_in u m p = own_vars (setting_at u m) (stmts_in u m p)
-
--- the blocks of the par at a place
-abbrev pub blocks_at : Tables → ℕ → ℕ → Blocks
-blocks_at u m i = blocks (own_in u m (parts.First i)) (code_from u m (parts.First i) 0) (own_in u m (parts.Second i)) (code_from u m (parts.Second i) 0)
-
--- ---------- moments and ends ----------
--- the moment at which a branch with this mark stands
-abbrev pub moment_by : Names → Mark → Heap → ℕ → Own → Moment
-moment_by names mark h turns o = record { turns = turns; own = own_by names mark o; heap = h }
-
+-- ---------- ends ----------
 -- why a branch has failed
-abbrev pub failure_of : failing.Failure → Failure
-failure_of (failures.Trapped k at) = Trapped k at
-failure_of failures.NoTurns = NoTurns
+abbrev pub failure_by : failing.Failure → Failure
+failure_by (failures.Trapped k at) = Trapped k at
+failure_by failures.NoTurns = NoTurns
 
 -- how a side has ended
 abbrev pub final_by : Names → ending.Final → heaps.Final
 final_by names (finals.Fine vs t p) = Fine (all_by names vs) t p
-final_by names (finals.Failed e t p) = Failed (failure_of e) t p
+final_by names (finals.Failed e t p) = Failed (failure_by e) t p
+
+-- the turns that it leaves
+abbrev pub turns_left : ending.Final → ℕ
+turns_left (finals.Fine vs t p) = t
+turns_left (finals.Failed e t p) = t
 
 -- ---------- what waits ----------
 -- what waits for a call: of what its caller has, only the variables and the method come back
@@ -68,13 +57,13 @@ pub record WaitsForCall (u : Tables) (names : Names) (c : Caller) (w : Waiting) 
 pub record WaitsForLeft (u : Tables) (names : Names) (p : Parent) (w : Waiting) : Type 0 where
   pub mark : Mark
   pub heap : Heap
-  pub is : w ≡ ForLeft (blocks_at u p.own.«method» p.stmt) (moment_by names mark heap p.turns p.own) (code_at u p.own.«method» p.rest)
+  pub is : w ≡ ForLeft (par_at u p.own.«method» p.stmt) (moment_by names mark heap p.turns p.own) (code_at u p.own.«method» p.rest)
 
 -- what waits for its right side
 pub record WaitsForRight (u : Tables) (names : Names) (p : Parent) (left : ending.Final) (w : Waiting) : Type 0 where
   pub mark : Mark
   pub heap : Heap
-  pub is : w ≡ ForRight (blocks_at u p.own.«method» p.stmt) (moment_by names mark heap p.turns p.own) (final_by names left) (code_at u p.own.«method» p.rest)
+  pub is : w ≡ ForRight (par_at u p.own.«method» p.stmt) (moment_by names mark heap p.turns p.own) (final_by names left) (code_at u p.own.«method» p.rest)
 
 -- what a frame stands for above which a method runs
 abbrev pub StandsFor : Tables → Names → ℕ → Frame → Waiting → Type 0

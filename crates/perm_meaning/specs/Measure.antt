@@ -1,22 +1,16 @@
 -- How much of a run is left: the turns, and what waits.
 use Rattle.std.specs.Prelude.{ℕ, ◌+◌, ◌*◌, ◌/◌, List, [], ◌∷◌}
-use Rattle.perm_meaning.specs.declared.eval.frames.Final as ending
-use Rattle.perm_meaning.specs.declared.eval.frames.Final.TheVariants as finals
 use Rattle.perm_meaning.specs.declared.eval.frames.Frame.{Frame}
 use Rattle.perm_meaning.specs.declared.eval.frames.Frame.TheVariants as frames
 use Rattle.perm_meaning.specs.declared.eval.state.Fate.{Fate}
 use Rattle.perm_meaning.specs.declared.eval.state.Fate.TheVariants as fates
 use Rattle.perm_meaning.specs.declared.eval.state.State.{State}
-
--- the turns left at the end of a side
-abbrev pub turns_at : ending.Final → ℕ
-turns_at (finals.Fine vs t out) = t
-turns_at (finals.Failed e t out) = t
+use Rattle.perm_meaning.specs.Frames.{turns_left}
 
 -- the turns that wait in a frame: those of a right side that hasn't begun, or those that a left side has left
 abbrev pub frame_turns : Frame → ℕ
 frame_turns (frames.Left p) = p.turns / 2
-frame_turns (frames.Right p left) = turns_at left
+frame_turns (frames.Right p left) = turns_left left
 frame_turns f = 0
 
 -- the ends that a frame has still to take, twice

@@ -7,7 +7,7 @@ use Rattle.perm_tree.specs.declared.ast.Stmt.{Stmt}
 use Rattle.perm_tree.specs.declared.ast.StmtKind.{StmtKind}
 use Rattle.perm_tree.specs.declared.ast.StmtKind.TheVariants.{Assign, If, While, Par}
 use Rattle.perm_tree.specs.Code.{Code, End, Give, Return}
-use Rattle.perm_tree.specs.CodeNames.{Setting, argument, var_at}
+use Rattle.perm_tree.specs.CodeNames.{Setting, argument, own_vars, var_at}
 use Rattle.perm_tree.specs.CodeOf.{block_code}
 use Rattle.perm_tree.specs.InBody.{body_if, method_at, setting_at}
 use Rattle.perm_tree.specs.Scopes.{else_stmts}
@@ -50,6 +50,10 @@ abbrev pub stmts_in : Tables → ℕ → Part → List ℕ
 stmts_in u m parts.Body = body_if (method_at u m)
 stmts_in u m (parts.First i) = first_if (slice_get u.program.stmts i)
 stmts_in u m (parts.Second i) = second_if (slice_get u.program.stmts i)
+
+-- the variables that a part of a method itself declares
+abbrev pub own_in : Tables → ℕ → Part → List ℕ
+own_in u m p = own_vars (setting_at u m) (stmts_in u m p)
 
 -- ---------- how a part ends ----------
 -- a method ends with its `return`

@@ -24,23 +24,26 @@ use Rattle.perm_meaning.specs.declared.eval.state.Fate.{Fate}
 use Rattle.perm_meaning.specs.declared.eval.state.Fate.TheVariants as fates
 use Rattle.perm_meaning.specs.declared.eval.state.State.{State}
 use Rattle.perm_meaning.specs.Control.{behind, entered}
-use Rattle.perm_meaning.specs.Frames.{blocks_at, code_at, failure_of, final_by, moment_by, own_in, AmountsTo}
+use Rattle.perm_meaning.specs.Frames.{code_at, failure_by, final_by, AmountsTo}
 use Rattle.perm_meaning.specs.Meaning.{Result, Well, Gave, Handed, Fails, Full, Stuck}
 use Rattle.perm_meaning.specs.Names.{Mark}
 use Rattle.perm_meaning.specs.NamedHeap.{Heap}
 use Rattle.perm_meaning.specs.Numbered.{all_by, held_by, Names}
 use Rattle.perm_meaning.specs.NewNames.{AreNew}
+use Rattle.perm_meaning.specs.Parts.{own_in}
+use Rattle.perm_meaning.specs.Tied.{moment_by}
 use Rattle.perm_meaning.specs.Waiting.{Waiting}
 use Rattle.perm_meaning.specs.Whole.{whole}
+use Rattle.perm_meaning.specs.Writes.{par_at}
 
 -- ---------- what a state comes to ----------
 -- the end that the fate of a state tells of, of a branch with this mark
 abbrev pub comes_to : Tables → (ℕ → Bool) → Names → Mark → Heap → State → Fate → Result
 comes_to u fits names mark h s fates.Goes = whole (code_of u) fits (code_at u s.own.«method» s.control.spot) (moment_by names mark h s.turns s.own)
 comes_to u fits names mark h s fates.Closes = Well (moment_by names mark h s.turns s.own)
-comes_to u fits names mark h s (fates.Gives v x) = Handed x (held_by names v) (moment_by names mark h s.turns s.own)
-comes_to u fits names mark h s (fates.Returns v) = Gave (held_by names v) (moment_by names mark h s.turns s.own)
-comes_to u fits names mark h s (fates.Fails e) = Fails (failure_of e) s.turns s.own.printed h
+comes_to u fits names mark h s (fates.Gives v x) = Handed x (held_by names (Some v)) (moment_by names mark h s.turns s.own)
+comes_to u fits names mark h s (fates.Returns v) = Gave (held_by names (Some v)) (moment_by names mark h s.turns s.own)
+comes_to u fits names mark h s (fates.Fails e) = Fails (failure_by e) s.turns s.own.printed h
 comes_to u fits names mark h s fates.Full = Full
 comes_to u fits names mark h s fates.Sticks = Stuck
 
@@ -98,12 +101,6 @@ BeginsRight p old None new y = y ≡ fates.Sticks
 BeginsRight p old (Some left) new y = (y ≡ fates.Goes) × (new ≡ right_at p left old)
 
 -- ---------- behind a par ----------
--- the sides of a par have joined to this
-abbrev pub JoinsAs : Tables → Parent → ending.Final → ending.Final → ending.Final → Type 0
-JoinsAs u p left right f =
-    let b = blocks_at u p.own.«method» p.stmt in
-    (names : Names) → join_final (merged (writes_l b) (writes_r b)) (all_by names p.own.vars) p.own.printed (final_by names left) (final_by names right) ≡ final_by names f
-
 -- the state behind a par whose sides have joined so
 abbrev pub joined_at : Parent → ending.Final → State → State
 joined_at p (finals.Fine vs t out) s = record s { own = record p.own { vars = vs; printed = out }; turns = t; control = record s.control { spot = p.rest } }
@@ -120,12 +117,12 @@ abbrev pub Clears : Tables → Part → Own → List (Option Value) → Type 0
 Clears u part old vs = (names : Names) → all_by names vs ≡ clear_all tagged (all_by names old.vars) (own_in u old.«method» part)
 
 -- and another one has taken a value
-abbrev pub ClearsAndTakes : Tables → Part → Own → ℕ → Option Value → List (Option Value) → Type 0
-ClearsAndTakes u part old x v vs = (names : Names) → all_by names vs ≡ assign (clear_all tagged (all_by names old.vars) (own_in u old.«method» part)) x (held_by names v)
+abbrev pub ClearsAndTakes : Tables → Part → Own → ℕ → Value → List (Option Value) → Type 0
+ClearsAndTakes u part old x v vs = (names : Names) → all_by names vs ≡ assign (clear_all tagged (all_by names old.vars) (own_in u old.«method» part)) x (held_by names (Some v))
 
 -- a caller has taken a value
-abbrev pub Takes : Caller → Option Value → List (Option Value) → Type 0
-Takes c v vs = (names : Names) → all_by names vs ≡ assign_into (all_by names c.vars) c.into (held_by names v)
+abbrev pub Takes : Caller → Value → List (Option Value) → Type 0
+Takes c v vs = (names : Names) → all_by names vs ≡ assign_into (all_by names c.vars) c.into (held_by names (Some v))
 
 -- the state behind a block
 abbrev pub behind_block : Spot → List (Option Value) → State → State

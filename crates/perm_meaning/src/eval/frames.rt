@@ -19,7 +19,7 @@ pub struct Spot {
     pub at: usize,
 }
 
-/// Why a branch has failed.
+/// Why a branch has failed. What finds no room on the heap ends the whole run.
 #[derive(Clone, Copy, Debug)]
 pub enum Failure {
     Trapped(TrapKind, Span),

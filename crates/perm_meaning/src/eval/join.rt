@@ -2,34 +2,21 @@
 
 ghost use Rattle.std.specs.Prelude.{◌≡◌, ◌+◌, ◌++◌, ◌<◌, ◌^◌, ℤ, List, cond, IfOk};
 ghost use Rattle.perm_meaning.specs.Custody.{from_either, merged, writes_l, writes_r};
-ghost use Rattle.perm_meaning.specs.Joined.{end_of_par, final_by, turns_left, IsJoined};
+ghost use Rattle.perm_meaning.specs.Frames.{final_by, turns_left};
+ghost use Rattle.perm_meaning.specs.Joined.{end_of_par, IsJoined};
 ghost use Rattle.perm_meaning.specs.Machine.{Fine};
 ghost use Rattle.perm_meaning.specs.Numbered.{all_by, Names};
 ghost use Rattle.perm_meaning.specs.Writes.{par_at, part_writes};
 
+use super::frames::Final;
 use super::own::Own;
 use super::parts::Part;
 use super::values::Value;
 use super::writes::part_writes;
-use perm_tree::ast::Span;
-use perm_tree::errors::{NoMemory, TrapKind};
+use perm_tree::errors::NoMemory;
 use perm_tree::list::{List, Numbers};
 use perm_tree::unit::Unit;
 use std::alloc::Global;
-
-/// Why a branch fails. What finds no room on the heap ends the whole run.
-#[derive(Clone, Copy, Debug)]
-pub enum Failure {
-    Trapped(TrapKind, Span),
-    NoTurns,
-}
-
-/// How a branch ends: it goes well with its variables, or it fails; with the turns left and the printed numbers.
-#[derive(Debug, Drop)]
-pub enum Final {
-    Fine(List<Option<Value>>, u64, Numbers),
-    Failed(Failure, u64, Numbers),
-}
 
 /// How the par at a place ends, by what its parent has and by how its sides end.
 pub fn joined(

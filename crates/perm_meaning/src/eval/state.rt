@@ -29,8 +29,8 @@ pub struct State {
 pub enum Fate {
     Goes,
     Closes,
-    Gives(Option<Value>, usize),
-    Returns(Option<Value>),
+    Gives(Value, usize),
+    Returns(Value),
     Fails(Failure),
     Full,
     Sticks,

@@ -1,8 +1,9 @@
 use Rattle.std.proofs.Common.{◌∙◌, ◌+◌, ◌++◌, List, append_assoc, sym, ap}
 use Rattle.std.specs.Prelude.{ℤ}
-use Rattle.perm_meaning.specs.declared.eval.join.Final.{Final}
+use Rattle.perm_meaning.specs.declared.eval.frames.Final.{Final}
 use Rattle.perm_meaning.specs.Custody.{merged, writes_l, writes_r}
-use Rattle.perm_meaning.specs.Joined.{end_of_par, final_by}
+use Rattle.perm_meaning.specs.Frames.{final_by}
+use Rattle.perm_meaning.specs.Joined.{end_of_par}
 use Rattle.perm_meaning.specs.Machine.{Fine}
 use Rattle.perm_meaning.specs.Numbered.{all_by}
 use Rattle.perm_meaning.specs.Writes.{par_at}

@@ -1,7 +1,7 @@
 use Rattle.std.proofs.Common.{◌≡◌, drop}
 use Rattle.perm_tree.specs.CodeNames.{own_vars}
 use Rattle.perm_tree.specs.InBody.{setting_at}
-use Rattle.perm_meaning.specs.Ends.{own_in}
+use Rattle.perm_meaning.specs.Parts.{own_in}
 use Rattle.perm_meaning.specs.Expressions.{clear_all, tagged}
 use Rattle.perm_meaning.specs.Numbered.{all_by, Names}
 use Rattle.perm_meaning.proofs.eval.own.Own.close.Given as goal
