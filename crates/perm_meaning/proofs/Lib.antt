@@ -19,9 +19,9 @@ pub mod MovesAndCopies
 pub mod Moving
 pub mod NewNames
 pub mod OnWords
-pub mod Opening
 pub mod Parts
 pub mod Routines
+pub mod Run
 pub mod SameName
 pub mod State
 pub mod Stored

@@ -110,3 +110,21 @@ MayTurn u (Some i) old new y = (f : Fate) × (y ≡ Some f) × IsNext u (unspent
 -- the state in which a frame waits innermost
 abbrev pub below_frame : Frame → State → State
 below_frame f s = record s { control = record s.control { frames = f ∷ s.control.frames } }
+
+-- ---------- the end ----------
+-- a run has ended with this fate: nothing waits, or the whole run has ended
+abbrev pub HasEnded : State → Fate → Type 0
+HasEnded s fates.Goes = ⊥
+HasEnded s fates.Full = Unit {0}
+HasEnded s fates.Sticks = Unit {0}
+HasEnded s f = s.control.frames ≡ []
+
+-- a run goes on from a state with its fate, or it has ended
+abbrev pub MayGoOn : Tables → State → Fate → State → Option Fate → Type 0
+MayGoOn u old x new None = HasEnded old x × (new ≡ old)
+MayGoOn u old x new (Some y) = IsNext u old x new y
+
+-- a run that begins so ends so
+pub record IsLast (u : Tables) (old new : State) (y : Fate) : Type 0 where
+  pub ended : HasEnded new y
+  pub means : (r : Result) → Means u old fates.Goes r → Means u new y r

@@ -2,6 +2,8 @@
 
 pub mod answers;
 pub mod asks;
+pub mod behind;
+pub mod blocks;
 pub mod callers;
 pub mod calls;
 pub mod control;
@@ -15,9 +17,12 @@ pub mod names;
 pub mod own;
 pub mod parts;
 pub mod plain;
+pub mod run;
 pub mod sides;
 mod simple;
+pub mod start;
 pub mod state;
+pub mod statements;
 pub mod step;
 pub mod tell;
 pub mod values;

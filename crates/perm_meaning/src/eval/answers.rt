@@ -74,7 +74,7 @@ impl Heap {
 }
 
 /// The values that a new object of a class starts with.
-fn values_of(alloc: Global, unit: &Unit, class: usize) -> Result<List<Value>, NoMemory>
+pub fn values_of(alloc: Global, unit: &Unit, class: usize) -> Result<List<Value>, NoMemory>
     ensures start { IfOk result (λ o. StartsAs (code_of unit.now) (Class class) (length o) o) }
     ensures count { IfOk result (λ o. length o ≡ length (field_types (code_of unit.now) class)) }
 {

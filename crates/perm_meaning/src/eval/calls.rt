@@ -66,7 +66,7 @@ pub fn begin(
 }
 
 /// The variables at the start of a method that has so many: `this`, the arguments, and the locals.
-fn first_vars(
+pub fn first_vars(
     this: Value,
     found: List<Option<Value>>,
     count: usize,
