@@ -1,0 +1,3 @@
+-- Each step of a run keeps what its state means.
+pub mod Blocks
+pub mod StatementsThere
