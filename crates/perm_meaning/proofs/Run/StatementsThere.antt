@@ -1,7 +1,7 @@
 -- The statements of a part of a method are those of the program, and one with no turn left fails.
-use Rattle.std.proofs.Common.{◌≡◌, ◌≢◌, ◌∙◌, ℕ, zero, suc, ◌<◌, ◌≤◌, List, [], ◌∷◌, length, Option, Some, None, refl, sym, ap, subst, arith}
+use Rattle.std.proofs.Common.{◌≡◌, ◌≢◌, ℕ, zero, suc, ◌<◌, List, [], ◌∷◌, length, Option, Some, None, refl, sym, subst, arith}
 use Rattle.std.specs.Prelude.{slice_get}
-use Rattle.std.proofs.lemmas.Option.{slice_get_cases, slice_get_within}
+use Rattle.std.proofs.lemmas.Option.{slice_get_within}
 use Rattle.perm_tree.specs.declared.ast.Block.{Block}
 use Rattle.perm_tree.specs.declared.ast.ClassDecl.{ClassDecl}
 use Rattle.perm_tree.specs.declared.ast.Method.{Method}
@@ -11,7 +11,7 @@ use Rattle.perm_tree.specs.declared.ast.Stmt.{Stmt}
 use Rattle.perm_tree.specs.declared.ast.StmtKind.{StmtKind}
 use Rattle.perm_tree.specs.declared.ast.StmtKind.TheVariants as kinds
 use Rattle.perm_tree.specs.declared.unit.MethodTable.{MethodTable}
-use Rattle.perm_tree.specs.InBody.{body_if, method_at, method_if}
+use Rattle.perm_tree.specs.InBody.{body_if, method_if}
 use Rattle.perm_tree.specs.Lookup.{method_in}
 use Rattle.perm_tree.specs.Places.{AllBelow, ElseBelow, IsPlaced, KindPlaced, RhsPlaced}
 use Rattle.perm_tree.specs.Scopes.{else_stmts}
@@ -24,7 +24,6 @@ use Rattle.perm_meaning.specs.declared.eval.state.State.{State}
 use Rattle.perm_meaning.specs.Parts.{first_if, first_stmts, recover_stmts, second_if, second_stmts, stmts_in}
 use Rattle.perm_meaning.specs.Run.{ComesNext, IsNext}
 use Rattle.perm_meaning.specs.State.{Moves}
-use Rattle.perm_tree.specs.declared.ast.Stmt as stated
 use Rattle.perm_meaning.proofs.Leads.{none-some}
 use Rattle.perm_meaning.proofs.Measure.{end-less}
 use Rattle.perm_meaning.proofs.Moving.{turns-out}
