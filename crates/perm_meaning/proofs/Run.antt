@@ -1,2 +1,5 @@
+-- Each step of a run keeps what its state means.
 pub mod Begun
+pub mod Blocks
+pub mod StatementsThere
 pub mod Turns

@@ -16,7 +16,7 @@ use perm_tree::list::List;
 use perm_tree::unit::Unit;
 
 /// How deep open calls and open pars of one path may nest.
-const MOST_DEPTH: u64 = 100_000;
+pub const MOST_DEPTH: u64 = 100_000;
 
 /// A call that begins: its method with the values of its variables, its depth, and where the result goes.
 #[derive(Debug, Drop)]

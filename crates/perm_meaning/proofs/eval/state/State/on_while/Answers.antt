@@ -1,0 +1,19 @@
+use Rattle.std.proofs.Common.{sym, subst}
+use Rattle.perm_meaning.specs.declared.eval.control.Control.{Control}
+use Rattle.perm_meaning.specs.declared.eval.state.Fate.{Fate}
+use Rattle.perm_meaning.specs.declared.eval.state.Fate.TheVariants as fates
+use Rattle.perm_meaning.specs.Control.{while_control, TestsAs}
+use Rattle.perm_meaning.specs.Run.{unspent, IsNext}
+use Rattle.perm_meaning.specs.State.{test_fate}
+use Rattle.perm_meaning.proofs.Run.Blocks.{while-next}
+use Rattle.perm_meaning.proofs.eval.state.State.on_while.Goals as goal
+
+pub returns : goal.returns
+returns c a e =
+    let u = c.args.unit.now in
+    let s = c.args.self.now in
+    let q = c.test_of-tested.result in
+    let next = while-next u s c.args.at c.args.stmt.now c.resolved.ensures.resolved.formed.placed c.requires c.args.e a e q
+    (λ names. subst (λ v. TestsAs v q) (c.in_ok-given.ensures names) (c.test_of-tested.ensures names)) in
+    subst (λ (f : Fate). IsNext u (unspent s) fates.Goes (record s { control = c.on_while.new.self }) f) (sym c.test_fate.ensures)
+    (subst (λ (k : Control). IsNext u (unspent s) fates.Goes (record s { control = k }) (test_fate c.args.stmt.now.head q)) (sym c.in_ok-on_while.ensures) next)
