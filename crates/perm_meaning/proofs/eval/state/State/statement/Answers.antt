@@ -6,11 +6,12 @@ use Rattle.perm_meaning.specs.declared.eval.state.State.{State}
 use Rattle.perm_meaning.specs.Invoking.{call_in}
 use Rattle.perm_meaning.specs.Run.{IsNext, MayTurn}
 use Rattle.perm_meaning.specs.Simple.{simple_of}
+use Rattle.perm_meaning.proofs.Run.StatementsThere.{turn-out}
 use Rattle.perm_meaning.proofs.Run.Turns.{has-turned, is-left, unspent-is}
 use Rattle.perm_meaning.proofs.eval.state.State.statement.Goals as goal
 
 pub returns-then-self-eq0 : goal.returns-then-self-eq0
-returns-then-self-eq0 c = ?
+returns-then-self-eq0 c = turn-out c.args.unit.now c.args.self.now c.args.at c.args.stmt.now c.requires.next c.if-self-eq0.true c.resolved.ensures.resolved.formed.placed
 
 pub returns-in-Some : goal.returns-in-Some
 returns-in-Some c =
