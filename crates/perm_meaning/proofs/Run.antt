@@ -1,3 +1,4 @@
 -- Each step of a run keeps what its state means.
 pub mod Blocks
+pub mod PartEnds
 pub mod StatementsThere
