@@ -1,5 +1,5 @@
 -- The ends of parts of methods keep what a state means.
-use Rattle.std.proofs.Common.{◌≡◌, ◌∙◌, ℕ, zero, suc, ◌-◌, ◌+◌, ◌*◌, ◌<◌, ◌≤◌, Bool, true, List, [], length, Option, Some, None, refl, sym, ap, subst, arith, le_refl}
+use Rattle.std.proofs.Common.{◌≡◌, ◌∙◌, ℕ, zero, suc, ◌-◌, ◌+◌, ◌*◌, ◌<◌, ◌≤◌, Bool, true, List, [], Option, Some, None, refl, sym, ap, subst, arith, le_refl}
 use Rattle.std.specs.Prelude.{slice_get}
 use Rattle.perm_tree.specs.declared.ast.Span.{Span}
 use Rattle.perm_tree.specs.Code.{Code, UnitCode}
@@ -67,6 +67,7 @@ give-below n (suc t) (given.Value v) x at below = below v refl
 give-below n (suc t) (given.Trap k) x at below = tt
 give-below n (suc t) given.Nothing x at below = tt
 
+-- the same of a `return`
 return-below : (n t : ℕ) (g : Given) (at : Span) → ((v : Value) → g ≡ given.Value v → IsBelow n v) → FateBelow n (return_fate t g at)
 return-below n zero g at below = tt
 return-below n (suc t) (given.Value v) at below = below v refl
@@ -100,11 +101,11 @@ module _ (u : Tables) (s : State) (none : slice_get (stmts_in u s.own.«method»
   abbrev pub with_turns : List (Option Value) → ℕ → State
   with_turns vs t = record s { own = record s.own { vars = vs }; turns = t }
 
-  -- what the part's end is found to be
-  abbrev pub EndsHere : List (Option Value) → Ended → Type 0
-  EndsHere vs e = EndsAs (code_of u) (end_in u s.own.«method» s.control.spot.part) s.own (record s.own { vars = vs }) e
+  -- the end of the part is found to be this, where the branch has this then
+  abbrev pub EndsWith : Own → Ended → Type 0
+  EndsWith o e = EndsAs (code_of u) (end_in u s.own.«method» s.control.spot.part) s.own o e
 
-  module _ (vs : List (Option Value)) (e : Ended) (ends : EndsHere vs e) where
+  module _ (vs : List (Option Value)) (e : Ended) (ends : EndsWith (record s.own { vars = vs }) e) where
     -- the part ends with a fate
     end-next : (y : Fate) (t : ℕ) → t ≤ s.turns → fate_weight y ≡ 0 → ((n : ℕ) → AllBelow n s.own.vars → AllBelow n vs × FateBelow n y)
         → ((fits : ℕ → Bool) (names : Names) (mark : Mark) (h : Heap) → ended names vs e (moment_by names mark h s.turns s.own) ≡ comes_to u fits names mark h (with_turns vs t) y) → IsNext u s fates.Goes (with_turns vs t) y
@@ -127,10 +128,6 @@ module _ (u : Tables) (s : State) (none : slice_get (stmts_in u s.own.«method»
             let y-is = unfolds (code_of u) fits code m ∙ ends names fits (whole (code_of u) fits) m refl ∙ is fits names mark h in
             (mark, ws, new, comes-tied u fits names mark h (with_turns vs t) y ws r (part-ends u s fits names mark h ws r (comes_to u fits names mark h (with_turns vs t) y) none y-is due))
 
-  -- the same where the branch has this then
-  abbrev pub EndsWith : Own → Ended → Type 0
-  EndsWith o e = EndsAs (code_of u) (end_in u s.own.«method» s.control.spot.part) s.own o e
-
   -- a part that has no end of its own is done
   pub closes-next : (o : Own) → EndsWith o Closes → o ≡ s.own → IsNext u s fates.Goes (record s { own = o }) fates.Closes
   closes-next o ends same =
@@ -141,6 +138,7 @@ module _ (u : Tables) (s : State) (none : slice_get (stmts_in u s.own.«method»
   fewer : (t : ℕ) → t - 1 ≤ t
   fewer t = omega arith
 
+  -- and it is one
   one-spent : (t : ℕ) → t ≡ suc t - 1
   one-spent t = omega arith
 
@@ -154,6 +152,7 @@ module _ (u : Tables) (s : State) (none : slice_get (stmts_in u s.own.«method»
       subst (λ (z : State). IsNext u s fates.Goes z y) (sym state) (subst (λ (z : Fate). IsNext u s fates.Goes (after_turn o) z) (sym fate) next)
 
   module _ (g : Given) (x : ℕ) (at : Span) where
+    -- what it comes to is told by its fate
     give-is : (vs : List (Option Value)) (t : ℕ) (fits : ℕ → Bool) (names : Names) (mark : Mark) (h : Heap) → ended names vs (Gives g x at) (moment_by names mark h t s.own) ≡ comes_to u fits names mark h (with_turns vs (t - 1)) (give_fate t g x at)
     give-is vs zero fits names mark h = refl
     give-is vs (suc t) fits names mark h =
@@ -178,6 +177,7 @@ module _ (u : Tables) (s : State) (none : slice_get (stmts_in u s.own.«method»
         (give-is o.vars s.turns))
 
   module _ (g : Given) (at : Span) where
+    -- what it comes to is told by its fate
     return-is : (t : ℕ) (fits : ℕ → Bool) (names : Names) (mark : Mark) (h : Heap) → ended names s.own.vars (Returns g at) (moment_by names mark h t s.own) ≡ comes_to u fits names mark h (with_turns s.own.vars (t - 1)) (return_fate t g at)
     return-is zero fits names mark h = refl
     return-is (suc t) fits names mark h =

@@ -1,6 +1,5 @@
 use Rattle.std.proofs.Common.{subst}
 use Rattle.perm_meaning.specs.declared.eval.ends.Ended.{Ended}
-use Rattle.perm_meaning.specs.declared.eval.ends.Ended.TheVariants.{Gives}
 use Rattle.perm_meaning.specs.Ends.{give_fate, return_fate, LosesGiven}
 use Rattle.perm_meaning.proofs.Run.PartEnds.{closes-next, gives-next, returns-next, turn-next, EndsWith}
 use Rattle.perm_meaning.proofs.eval.state.State.end_part.Goals as goal
