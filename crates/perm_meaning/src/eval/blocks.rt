@@ -1,10 +1,11 @@
 //! Statements with blocks, and the ends of parts, in a run.
 
-ghost use Rattle.std.specs.Prelude.{◌≡◌, slice_get, IfOk, None, Option};
+ghost use Rattle.std.specs.Prelude.{◌≡◌, ◌-◌, slice_get, IfOk, None, Option};
 ghost use Rattle.perm_tree.specs.declared.ast.Block.{Block};
 ghost use Rattle.perm_tree.specs.declared.ast.Ident.{Ident};
 ghost use Rattle.perm_tree.specs.declared.ast.Ty.{Ty};
 ghost use Rattle.perm_tree.specs.InBody.{setting_at};
+ghost use Rattle.perm_meaning.specs.Ends.{give_fate, return_fate};
 ghost use Rattle.perm_meaning.specs.Invoking.{call_in};
 ghost use Rattle.perm_meaning.specs.Parts.{stmts_in};
 ghost use Rattle.perm_meaning.specs.Run.{unspent, ComesNext, IsNext, IsSmall};
@@ -13,8 +14,10 @@ ghost use Rattle.perm_meaning.specs.State.{test_fate};
 
 use super::calls::MOST_DEPTH;
 use super::control::{Tested, test_of};
+use super::ends::Ended;
 use super::frames::Failure;
 use super::state::{Fate, State};
+use super::values::Given;
 use perm_tree::ast::{Rhs, Span, Stmt, StmtKind};
 use perm_tree::errors::{NoMemory, TrapKind};
 use perm_tree::unit::Unit;
@@ -148,6 +151,42 @@ impl State {
         requires small { IsSmall self.old }
         ensures { IfOk result (λ y. IsNext unit.now self.old Fate.Goes self.new y) }
     {
-        Err(NoMemory)
+        match self.own.end(alloc, unit, self.control.spot.part)? {
+            Ended::Closes => Ok(Fate::Closes),
+            Ended::Gives(given, x, at) => Ok(self.on_give(given, x, at)),
+            Ended::Returns(given, at) => Ok(self.on_return(given, at)),
+        }
+    }
+
+    /// `give w;`, where w gives this.
+    fn on_give(&mut self, given: Given, x: usize, at: Span) -> Fate
+        ensures fate { result ≡ give_fate self.old.turns given x at }
+        ensures state { self.new ≡ record self.old { turns = self.old.turns - 1 } }
+    {
+        if self.turns == 0 {
+            return Fate::Fails(Failure::NoTurns);
+        }
+        self.turns -= 1;
+        match given {
+            Given::Value(value) => Fate::Gives(value, x),
+            Given::Trap(kind) => Fate::Fails(Failure::Trapped(kind, at)),
+            Given::Nothing => Fate::Sticks,
+        }
+    }
+
+    /// `return A;`, where A gives this.
+    fn on_return(&mut self, given: Given, at: Span) -> Fate
+        ensures fate { result ≡ return_fate self.old.turns given at }
+        ensures state { self.new ≡ record self.old { turns = self.old.turns - 1 } }
+    {
+        if self.turns == 0 {
+            return Fate::Fails(Failure::NoTurns);
+        }
+        self.turns -= 1;
+        match given {
+            Given::Value(value) => Fate::Returns(value),
+            Given::Trap(kind) => Fate::Fails(Failure::Trapped(kind, at)),
+            Given::Nothing => Fate::Sticks,
+        }
     }
 }

@@ -7,7 +7,7 @@ ghost use Rattle.perm_tree.specs.CodeNames.{argument, var_at};
 ghost use Rattle.perm_tree.specs.CodeOf.{code_of};
 ghost use Rattle.perm_tree.specs.InBody.{method_at, setting_at};
 ghost use Rattle.perm_tree.specs.Scopes.{declared_at, declared_by};
-ghost use Rattle.perm_meaning.specs.Ends.{EndsAs};
+ghost use Rattle.perm_meaning.specs.Ends.{EndsAs, LosesGiven};
 ghost use Rattle.perm_meaning.specs.Expressions.{assign, clear_all, tagged, value_of};
 ghost use Rattle.perm_meaning.specs.Numbered.{all_by, given_by, held_by, Names};
 ghost use Rattle.perm_meaning.specs.Parts.{end_in, first_end, first_end_if, give_of, own_in, return_if};
@@ -96,6 +96,7 @@ impl Own {
     /// How a part ends. A variable that a recover block gives loses its value.
     pub fn end(&mut self, alloc: Global, unit: &Unit, part: Part) -> Result<Ended, NoMemory>
         ensures ends { IfOk result (λ e. EndsAs (code_of unit.now) (end_in unit.now self.old.«method» part) self.old self.new e) }
+        ensures vars { IfOk result (λ e. LosesGiven self.old self.new e) }
         ensures same { self.new ≡ record self.old { vars = self.new.vars } }
     {
         match part {
@@ -107,7 +108,8 @@ impl Own {
 
     /// `return A;`
     fn return_back(&self, alloc: Global, unit: &Unit) -> Result<Ended, NoMemory>
-        ensures { IfOk result (λ e. EndsAs (code_of unit.now) (return_if (setting_at unit.now self.now.«method») (method_at unit.now self.now.«method»)) self.now self.now e) }
+        ensures ends { IfOk result (λ e. EndsAs (code_of unit.now) (return_if (setting_at unit.now self.now.«method») (method_at unit.now self.now.«method»)) self.now self.now e) }
+        ensures vars { IfOk result (λ e. LosesGiven self.now self.now e) }
     {
         match method(unit, self.method) {
             Some(method) => {
@@ -130,6 +132,7 @@ impl Own {
 
     fn end_first(&mut self, unit: &Unit, at: u32) -> Ended
         ensures ends { EndsAs (code_of unit.now) (end_in unit.now self.old.«method» (Part.First at)) self.old self.new result }
+        ensures vars { LosesGiven self.old self.new result }
         ensures same { self.new ≡ record self.old { vars = self.new.vars } }
     {
         match unit.program().stmts().get(at as usize) {
@@ -140,6 +143,7 @@ impl Own {
 
     fn end_of(&mut self, unit: &Unit, kind: &StmtKind) -> Ended
         ensures ends { EndsAs (code_of unit.now) (first_end (setting_at unit.now self.old.«method») kind.now) self.old self.new result }
+        ensures vars { LosesGiven self.old self.new result }
         ensures same { self.new ≡ record self.old { vars = self.new.vars } }
     {
         match kind {
@@ -153,6 +157,7 @@ impl Own {
 
     fn end_into(&mut self, unit: &Unit, x: usize, r: &Rhs) -> Ended
         ensures ends { EndsAs (code_of unit.now) (give_of (setting_at unit.now self.old.«method») x r.now) self.old self.new result }
+        ensures vars { LosesGiven self.old self.new result }
         ensures same { self.new ≡ record self.old { vars = self.new.vars } }
     {
         match r {
@@ -164,6 +169,7 @@ impl Own {
     /// `give w;`
     fn give(&mut self, unit: &Unit, x: usize, w: Ident, at: Span) -> Ended
         ensures ends { EndsAs (code_of unit.now) (Give at (var_at (setting_at unit.now self.old.«method») w) x) self.old self.new result }
+        ensures vars { LosesGiven self.old self.new result }
         ensures same { self.new ≡ record self.old { vars = self.new.vars } }
     {
         let given = self.held(unit, w);

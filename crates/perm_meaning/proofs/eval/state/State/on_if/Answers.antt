@@ -2,7 +2,7 @@ use Rattle.std.proofs.Common.{sym, subst}
 use Rattle.perm_meaning.specs.declared.eval.control.Control.{Control}
 use Rattle.perm_meaning.specs.declared.eval.state.Fate.{Fate}
 use Rattle.perm_meaning.specs.declared.eval.state.Fate.TheVariants as fates
-use Rattle.perm_meaning.specs.Control.{if_control, TestsAs}
+use Rattle.perm_meaning.specs.Control.{TestsAs}
 use Rattle.perm_meaning.specs.Run.{unspent, IsNext}
 use Rattle.perm_meaning.specs.State.{test_fate}
 use Rattle.perm_meaning.proofs.Run.Blocks.{if-next}
