@@ -1,10 +1,16 @@
-//! Runs the programs of the folder in which it is started, and tells whether what comes of each is what stands beside it: `NAME.perm` writes `NAME.out`, and ends with the status in `NAME.status`, or with 0 where there is no such file. `cases.txt` and `runs.txt` have small texts with their answers.
+//! Runs the programs of the folder in which it is started, and tells whether what comes of each is what stands beside it: `NAME.perm` writes `NAME.out`, and ends with the status in `NAME.status`, or with 0 where there is no such file. `cases.txt` and `runs.txt` have small texts with their answers. Of each text that is accepted it tells besides where the interpreter and the plain evaluator differ.
 #![tactic(auto)]
+
+ghost use Rattle.std.specs.Prelude.{length, ◌≤◌};
 
 #[cfg(test)]
 mod tests;
 
 use perm_base::{FileShelf, MemFile, MemShelf, MemSink, Shelf};
+use perm_check::check_text;
+use perm_lex::MOST_BYTES;
+use perm_meaning::{Outcome, Plain, eval_plain};
+use perm_step::run_alone;
 use perm_top::run_words;
 use std::alloc::{AllocError, Global};
 use std::rt::Files;
@@ -12,6 +18,10 @@ use std::{fs, io};
 
 /// The most bytes that an example writes.
 const ROOM: u64 = 65_536;
+
+/// The turns and the words of the heap with which the interpreter and the plain evaluator are compared.
+const TURNS: u64 = 100_000;
+const WORDS: u64 = 65_536;
 
 /// The path of a text that stands in memory.
 const PATH: &str = "case";
@@ -25,6 +35,10 @@ fn main(rt: HostRuntime) -> io::Result<()> {
             "NOT as told"
         };
         println!(rt; "{name}: {verdict}")?;
+        let program = format!(in rt.alloc(); "{name}.perm")?;
+        if !is_evaluated_alike(rt.alloc(), fs::read(&rt, program.as_str())?.as_slice())? {
+            println!(rt; "{name}: evaluated otherwise")?;
+        }
     }
     run_cases(&rt, "cases.txt")?;
     run_cases(&rt, "runs.txt")
@@ -69,6 +83,34 @@ fn is_as_told(rt: &HostRuntime, name: &str) -> io::Result<bool> {
     Ok(answer.text.as_slice() == text.as_slice() && answer.status == wanted_status(rt, name)?)
 }
 
+/// Whether the plain evaluator tells of a text what the interpreter does, on no input. A text that is refused isn't run.
+fn is_evaluated_alike(alloc: Global, text: &[u8]) -> Result<bool, AllocError> {
+    let Ok(checked) = check_text(alloc, short(text)) else {
+        return Ok(true);
+    };
+    let outcome = run_alone(alloc, &checked, &[], TURNS, WORDS).map_err(|_| AllocError)?;
+    let plain = eval_plain(alloc, checked.unit(), &[], TURNS, WORDS).map_err(|_| AllocError)?;
+    Ok(match plain {
+        Plain::Ran(plain) => are_alike(&plain, &outcome),
+        Plain::Stuck => false,
+    })
+}
+
+/// Whether two outcomes are one, but for the words of the heap.
+fn are_alike(plain: &Outcome, outcome: &Outcome) -> bool {
+    plain.end == outcome.end
+        && plain.printed.as_slice() == outcome.printed.as_slice()
+        && plain.spent == outcome.spent
+        && plain.need == outcome.need
+}
+
+/// A text as it is checked: no longer than a text may be.
+fn short(text: &[u8]) -> &[u8]
+    ensures { length result.now ≤ MOST_BYTES }
+{
+    &text[..text.len().min(MOST_BYTES)]
+}
+
 /// The status that stands beside a program.
 fn wanted_status(rt: &HostRuntime, name: &str) -> io::Result<u8> {
     let path = format!(in rt.alloc(); "{name}.status")?;
@@ -90,6 +132,9 @@ fn run_cases(rt: &HostRuntime, path: &str) -> io::Result<()> {
         let told = told_of(alloc, program)?;
         if told.as_str() != wanted {
             println!(rt; "{program}: {told}")?;
+        }
+        if !is_evaluated_alike(alloc, program.as_bytes())? {
+            println!(rt; "{program}: evaluated otherwise")?;
         }
         count = count.saturating_add(1);
     }

@@ -1,6 +1,7 @@
 //! Runs of the interpreter with an input, turns and a heap of their own.
 
-use super::{POINT, short};
+use super::POINT;
+use crate::short;
 use perm_check::check_text;
 use perm_meaning::{End, Outcome};
 use perm_step::run_alone;

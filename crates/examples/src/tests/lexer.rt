@@ -1,6 +1,6 @@
 //! What `lex` gives.
 
-use super::short;
+use crate::short;
 use perm_lex::lex;
 use perm_tree::ast::Span;
 use perm_tree::errors::LexError;
