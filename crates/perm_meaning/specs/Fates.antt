@@ -30,7 +30,7 @@ step_fate at (steps.Traps k) = fates.Fails (failures.Trapped k at)
 step_fate at steps.Full = fates.Full
 step_fate at steps.Sticks = fates.Sticks
 
--- the code goes on behind a statement that went well
+-- and the state: the code goes on behind a statement that went well
 abbrev pub step_state : Step → State → State
 step_state steps.Goes s = record s { control = passed s.control }
 step_state (steps.Traps k) s = trapped_state s
@@ -52,7 +52,7 @@ called_own c o = record o { vars = c.vars; «method» = c.«method»; depth = c.
 abbrev pub caller_at : Call → Own → Spot → Caller
 caller_at c o rest = record { vars = o.vars; «method» = o.«method»; into = c.into; rest = rest }
 
--- a call that begins runs its method, and the caller waits
+-- the state where this is found of a call: one that begins runs its method, and the caller waits
 abbrev pub callee_state : Callee → State → State
 callee_state (callees.Begins c) s = record s { own = called_own c s.own; control = entered parts.Body (frames.Call (caller_at c s.own (behind s.control.spot))) s.control }
 callee_state (callees.Halts k) s = trapped_state s

@@ -1,5 +1,5 @@
 -- The turn of a call statement, from one state to the next.
-use Rattle.std.proofs.Common.{◌≡◌, ◌∙◌, ℕ, suc, ◌<◌, ◌≤◌, List, ◌∷◌, Option, Some, None, length, refl, sym, ap, subst, arith}
+use Rattle.std.proofs.Common.{◌≡◌, ◌∙◌, ℕ, suc, ◌<◌, List, ◌∷◌, Option, Some, None, length, refl, sym, ap, subst, arith}
 use Rattle.perm_tree.specs.declared.ast.Span.{Span}
 use Rattle.perm_tree.specs.declared.ast.Stmt.{Stmt}
 use Rattle.perm_tree.specs.declared.errors.TrapKind.{TrapKind}
@@ -17,7 +17,6 @@ use Rattle.perm_meaning.specs.declared.eval.state.Fate.{Fate}
 use Rattle.perm_meaning.specs.declared.eval.state.Fate.TheVariants as fates
 use Rattle.perm_meaning.specs.declared.eval.state.State.{State}
 use Rattle.perm_meaning.specs.declared.eval.values.Value.{Value}
-use Rattle.perm_meaning.specs.Calling.{BeginsCall, IsCallOf}
 use Rattle.perm_meaning.specs.Control.{behind}
 use Rattle.perm_meaning.specs.Effects.{effect, ticks, Calling, Calls}
 use Rattle.perm_meaning.specs.Expressions.{tagged}
@@ -107,11 +106,13 @@ module _ (u : Tables) (is : IsResolved u) (at : Span) (s : State) (i : Instructi
     called callees.Sticks invokes = sym (call-stuck u (within s.heap.limit) st.waits s.turns st.heap st.names st.mark s.own caller at i rest (invokes st.names st.mark)) ∙ due
 
   -- ---------- sizes ----------
+  -- the state stays within the limits
   call-small : (c : Callee) → IsSmall (unspent s) → IsSmall (callee_state c passing)
   call-small (callees.Begins c) is = record { turns = omega (arith, is.turns); limit = is.limit; parents = is.parents }
   call-small (callees.Halts k) is = record { turns = omega (arith, is.turns); limit = is.limit; parents = is.parents }
   call-small callees.Sticks is = record { turns = omega (arith, is.turns); limit = is.limit; parents = is.parents }
 
+  -- less is left of the run
   call-less : (c : Callee) → left_of_run (callee_state c passing) (callee_fate at c) < left_of_run (unspent s) fates.Goes
   call-less (callees.Begins c) = omega arith
   call-less (callees.Halts k) = omega arith

@@ -8,10 +8,10 @@ use Rattle.perm_meaning.specs.declared.eval.frames.Frame.TheVariants as frames
 use Rattle.perm_meaning.specs.Frames.{code_at, final_by, AllStand, NoneStands, OneStands, StandsFor}
 use Rattle.perm_meaning.specs.Machine.{Fine}
 use Rattle.perm_meaning.specs.NamedHeap.{Final, Held, Own}
-use Rattle.perm_meaning.specs.Names.{Mark, Name, after_object, next_name, same_name}
+use Rattle.perm_meaning.specs.Names.{Mark, Name, after_object}
 use Rattle.perm_meaning.specs.NewNames.{AreNew}
 use Rattle.perm_meaning.specs.Numbered.{Names}
-use Rattle.perm_meaning.specs.Objects.{Object, Objects, add}
+use Rattle.perm_meaning.specs.Objects.{Objects}
 use Rattle.perm_meaning.specs.Simple.{own_by}
 use Rattle.perm_meaning.specs.Run.{FinalBelow, FrameBelow, FramesBelow}
 use Rattle.perm_meaning.specs.Tied.{AreSame, GivesAtMost}

@@ -1,5 +1,5 @@
 -- The turn of a simple statement that is no call, from one state to the next.
-use Rattle.std.proofs.Common.{◌≡◌, ◌∙◌, ℕ, suc, ◌+◌, ◌*◌, ◌<◌, ◌≤◌, List, [], Option, Some, None, length, refl, sym, ap, subst, arith}
+use Rattle.std.proofs.Common.{◌≡◌, ◌∙◌, ℕ, suc, ◌<◌, [], Option, Some, None, length, refl, sym, ap, subst, arith}
 use Rattle.perm_tree.specs.declared.ast.Span.{Span}
 use Rattle.perm_tree.specs.declared.ast.Stmt.{Stmt}
 use Rattle.perm_tree.specs.declared.errors.TrapKind.{TrapKind}
@@ -120,12 +120,14 @@ module _ (u : Tables) (at : Span) (s : State) (i : Instruction) (o : Own) (t : S
     stepped steps.Sticks e = sym (resumed-stuck (code_of u) (within s.heap.limit) st.waits) ∙ means-so Stuck e
 
   -- ---------- sizes ----------
+  -- the state stays within the limits
   step-small : (q : Step) → IsSmall (unspent s) → IsSmall (step_state q done)
   step-small steps.Goes is = record { turns = omega (arith, is.turns); limit = omega (arith, limit, is.limit); parents = is.parents }
   step-small (steps.Traps k) is = record { turns = omega (arith, is.turns); limit = omega (arith, limit, is.limit); parents = is.parents }
   step-small steps.Full is = record { turns = omega (arith, is.turns); limit = omega (arith, limit, is.limit); parents = is.parents }
   step-small steps.Sticks is = record { turns = omega (arith, is.turns); limit = omega (arith, limit, is.limit); parents = is.parents }
 
+  -- less is left of the run
   step-less : (q : Step) → left_of_run (step_state q done) (step_fate at q) < left_of_run (unspent s) fates.Goes
   step-less steps.Goes = omega arith
   step-less (steps.Traps k) = omega arith
