@@ -1,6 +1,9 @@
 -- Each step of a run keeps what its state means.
 pub mod Begun
 pub mod Blocks
+pub mod Calls
+pub mod LaterNames
 pub mod PartEnds
+pub mod Simple
 pub mod StatementsThere
 pub mod Turns

@@ -7,6 +7,7 @@ pub mod Effects
 pub mod Ends
 pub mod Evaluation
 pub mod Expressions
+pub mod Fates
 pub mod Frames
 pub mod HoldsFewer
 pub mod Invoking
