@@ -22,6 +22,7 @@ pub mod OnWords
 pub mod Opening
 pub mod Parts
 pub mod Routines
+pub mod Run
 pub mod SameName
 pub mod State
 pub mod Stored

@@ -97,7 +97,7 @@ right_at p left s = record s { own = side_of p.own; turns = p.turns / 2; control
 
 -- the right side begins where the left one has ended, and else nothing is meant
 abbrev pub BeginsRight : Parent → State → Option ending.Final → State → Fate → Type 0
-BeginsRight p old None new y = y ≡ fates.Sticks
+BeginsRight p old None new y = (y ≡ fates.Sticks) × (new ≡ record old { own = new.own })
 BeginsRight p old (Some left) new y = (y ≡ fates.Goes) × (new ≡ right_at p left old)
 
 -- ---------- behind a par ----------

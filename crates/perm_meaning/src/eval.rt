@@ -2,6 +2,8 @@
 
 pub mod answers;
 pub mod asks;
+pub mod behind;
+pub mod blocks;
 pub mod callers;
 pub mod calls;
 pub mod control;
@@ -18,6 +20,7 @@ pub mod plain;
 pub mod sides;
 mod simple;
 pub mod state;
+pub mod statements;
 pub mod step;
 pub mod tell;
 pub mod values;

@@ -1,0 +1,3 @@
+-- What each step of a run keeps.
+pub mod Behind
+pub mod BehindBlocks
