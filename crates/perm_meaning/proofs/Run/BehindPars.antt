@@ -139,9 +139,9 @@ module _ (u : Tables) (p : Parent) (left : ending.Final) (old : State) (x : Fate
       means = λ r. follows-means u (frames.Right p left) old x end (record p.own { vars = vs; printed = out }) t (record old.control { spot = p.rest }) fates.Goes r
           (right-follows u p left old x right (finals.Fine vs t out) ends joins own)
           (λ b. record {
-          vars = joined-below u p.stmt p.own left right (finals.Fine vs t out) joins _ vs t out refl b.frames.0.0 b.frames.0.1 (final-below _ old x right b.vars ends);
-          frames = b.frames.1;
-          value = tt;
+            vars = joined-below u p.stmt p.own left right (finals.Fine vs t out) joins _ vs t out refl b.frames.0.0 b.frames.0.1 (final-below _ old x right b.vars ends);
+            frames = b.frames.1;
+            value = tt;
           });
       small = λ small. record { turns = back-small (finals.Fine vs t out) joins small.turns; limit = small.limit; parents = small.parents.1 };
       less = join-less (record old { own = own }) p left (finals.Fine vs t out) x (back (finals.Fine vs t out) joins);
