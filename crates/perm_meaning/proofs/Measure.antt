@@ -1,5 +1,5 @@
 -- Each step leaves less of a run.
-use Rattle.std.proofs.Common.{◌≡◌, ℕ, suc, ◌+◌, ◌-◌, ◌*◌, ◌/◌, ◌<◌, ◌≤◌, true, false, List, Option, Some, None, sym, ap, arith}
+use Rattle.std.proofs.Common.{◌≡◌, ℕ, suc, ◌+◌, ◌-◌, ◌*◌, ◌/◌, ◌<◌, ◌≤◌, true, false, Option, Some, None, sym, ap, arith}
 use Rattle.perm_tree.specs.declared.ast.Span.{Span}
 use Rattle.perm_meaning.specs.declared.eval.control.Tested.{Tested}
 use Rattle.perm_meaning.specs.declared.eval.control.Tested.TheVariants as tests

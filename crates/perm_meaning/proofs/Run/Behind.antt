@@ -1,31 +1,22 @@
 -- What comes behind code that has ended, from one whole state to the next.
-use Rattle.std.proofs.Common.{◌≡◌, ◌∙◌, ℕ, ◌+◌, ◌<◌, ◌≤◌, ◌^◌, Bool, List, [], ◌∷◌, length, Option, Some, None, refl, sym, ap, subst, arith}
-use Rattle.std.specs.Prelude.{ℤ}
-use Rattle.perm_tree.specs.CodeOf.{code_of}
+use Rattle.std.proofs.Common.{◌≡◌, ℕ, ◌+◌, ◌≤◌, ◌^◌, List, ◌∷◌, length, subst, arith}
 use Rattle.perm_tree.specs.UnitTables.{Tables}
 use Rattle.perm_meaning.specs.declared.eval.control.Control.{Control}
-use Rattle.perm_meaning.specs.declared.eval.frames.Caller.{Caller}
-use Rattle.perm_meaning.specs.declared.eval.frames.Failure.{Failure}
-use Rattle.perm_meaning.specs.declared.eval.frames.Final as ending
-use Rattle.perm_meaning.specs.declared.eval.frames.Final.TheVariants as finals
 use Rattle.perm_meaning.specs.declared.eval.frames.Frame.{Frame}
 use Rattle.perm_meaning.specs.declared.eval.frames.Frame.TheVariants as frames
-use Rattle.perm_meaning.specs.declared.eval.frames.Parent.{Parent}
 use Rattle.perm_meaning.specs.declared.eval.frames.Spot.{Spot}
 use Rattle.perm_meaning.specs.declared.eval.own.Own.{Own}
-use Rattle.perm_meaning.specs.declared.eval.parts.Part.{Part}
 use Rattle.perm_meaning.specs.declared.eval.state.Fate.{Fate}
 use Rattle.perm_meaning.specs.declared.eval.state.Fate.TheVariants as fates
 use Rattle.perm_meaning.specs.declared.eval.state.State.{State}
-use Rattle.perm_meaning.specs.declared.eval.values.Value.{Value}
-use Rattle.perm_meaning.specs.Meaning.{Result, Full, Stuck}
-use Rattle.perm_meaning.specs.Measure.{all_turns, fate_weight, frame_turns, frame_weight, left_of_run, waiting_ends, waiting_turns}
+use Rattle.perm_meaning.specs.Meaning.{Result, Stuck}
+use Rattle.perm_meaning.specs.Measure.{frame_turns, waiting_turns}
 use Rattle.perm_meaning.specs.Names.{Mark}
 use Rattle.perm_meaning.specs.NamedHeap.{Heap}
 use Rattle.perm_meaning.specs.NewNames.{AreNew}
 use Rattle.perm_meaning.specs.Numbered.{Names}
 use Rattle.perm_meaning.specs.Frames.{AmountsTo}
-use Rattle.perm_meaning.specs.Run.{below_frame, AreShallow, FateBelow, FrameBelow, FramesBelow, IsNext, IsSmall, Means, Stands}
+use Rattle.perm_meaning.specs.Run.{below_frame, AreShallow, FateBelow, FramesBelow, IsNext, IsSmall, Means, Stands}
 use Rattle.perm_meaning.specs.State.{comes_to, Follows, IsEnd, Tied}
 use Rattle.perm_meaning.specs.Steps.{within}
 use Rattle.perm_meaning.specs.Tied.{AllBelow, AreTied}
@@ -47,7 +38,7 @@ end-stands u s fates.Full r end m = absurd end
 end-stands u s fates.Sticks r end m = absurd end
 end-stands u s f r end m = m
 
--- a state that is tied to a moment, with names and marks that are new, means what the moment comes to
+-- a state whose fate is tied to a result means it, where its objects are tied and all names to come are new
 pub tied-means : (u : Tables) (names : Names) (mark : Mark) (h : Heap) (ws : List Waiting) (r : Result) (s : State) (f : Fate) → AreTied names s.heap h → AreBelow (length s.heap.objects) s f → AreNew h.objects mark ws
     → Tied u (within s.heap.limit) names mark h s f ws r → Means u s f r
 tied-means u names mark h ws r s fates.Full objects below new tied = tied

@@ -1,5 +1,5 @@
 -- What comes behind a block, a recover block and a call.
-use Rattle.std.proofs.Common.{◌≡◌, ◌∙◌, ℕ, ◌-◌, Bool, List, ◌∷◌, length, Option, Some, refl, sym, ap, subst}
+use Rattle.std.proofs.Common.{◌≡◌, ◌∙◌, ℕ, ◌-◌, Bool, List, ◌∷◌, Option, Some, refl, sym, subst}
 use Rattle.perm_tree.specs.UnitTables.{Tables}
 use Rattle.perm_meaning.specs.declared.eval.frames.Caller.{Caller}
 use Rattle.perm_meaning.specs.declared.eval.frames.Failure.{Failure}
@@ -20,7 +20,7 @@ use Rattle.perm_meaning.specs.NamedHeap.{Heap}
 use Rattle.perm_meaning.specs.Numbered.{held_by, Names}
 use Rattle.perm_meaning.specs.Parts.{own_in}
 use Rattle.perm_meaning.specs.Run.{below_frame, IsNext}
-use Rattle.perm_meaning.specs.State.{behind_block, behind_call, comes_to, left_call, Clears, ClearsAndTakes, Follows, IsEnd, Takes}
+use Rattle.perm_meaning.specs.State.{comes_to, left_call, Clears, ClearsAndTakes, Follows, IsEnd, Takes}
 use Rattle.perm_meaning.specs.Tied.{moment_by, AllBelow, IsBelow}
 use Rattle.perm_meaning.specs.Waiting.{Waiting}
 use Rattle.perm_meaning.proofs.Ended.{block-gave, block-handed, call-closes, call-handed, recover-closes, recover-gave}
@@ -89,6 +89,7 @@ module _ (u : Tables) (part : Part) (rest : Spot) (old : State) where
   block-sticks (fates.Returns v) end closes fails =
       stuck-follows u (frames.Block part rest) old old (fates.Returns v) (λ fits names mark h w ws r. block-gave u fits names old.own.«method» old.control.frames w ws r part rest (held_by names (Some v)) (moment_by names mark h old.turns old.own))
 
+  -- so nothing comes of it
   pub block-stuck-next : (x : Fate) → IsEnd x → (x ≡ fates.Closes → ⊥) → ((e : Failure) → x ≡ fates.Fails e → ⊥) → IsNext u (below_frame (frames.Block part rest) old) x old fates.Sticks
   block-stuck-next x end closes fails = past-stuck u (frames.Block part rest) old x end old.own old.control.spot (block-sticks x end closes fails)
 
@@ -104,6 +105,7 @@ module _ (u : Tables) (part : Part) (rest : Spot) (old : State) where
   recover-sticks (fates.Returns v) end gives fails =
       stuck-follows u (frames.Recover part rest) old old (fates.Returns v) (λ fits names mark h w ws r. recover-gave u fits names old.own.«method» old.control.frames w ws r part rest (held_by names (Some v)) (moment_by names mark h old.turns old.own))
 
+  -- so nothing comes of that
   pub recover-stuck-next : (x : Fate) → IsEnd x → ((v : Value) (y : ℕ) → x ≡ fates.Gives v y → ⊥) → ((e : Failure) → x ≡ fates.Fails e → ⊥) → IsNext u (below_frame (frames.Recover part rest) old) x old fates.Sticks
   recover-stuck-next x end gives fails = past-stuck u (frames.Recover part rest) old x end old.own old.control.spot (recover-sticks x end gives fails)
 
@@ -133,5 +135,6 @@ module _ (u : Tables) (c : Caller) (old : State) where
   call-sticks (fates.Gives v x) end returns fails =
       stuck-follows u (frames.Call c) old old (fates.Gives v x) (λ fits names mark h w ws r. call-handed u fits names old.own.«method» old.control.frames w ws r c x (held_by names (Some v)) (moment_by names mark h old.turns old.own))
 
+  -- so nothing comes of it
   pub call-stuck-next : (x : Fate) → IsEnd x → ((v : Value) → x ≡ fates.Returns v → ⊥) → ((e : Failure) → x ≡ fates.Fails e → ⊥) → IsNext u (below_frame (frames.Call c) old) x old fates.Sticks
   call-stuck-next x end returns fails = past-stuck u (frames.Call c) old x end old.own old.control.spot (call-sticks x end returns fails)

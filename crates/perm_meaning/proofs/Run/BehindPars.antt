@@ -1,5 +1,5 @@
 -- What comes behind the left and the right side of a par.
-use Rattle.std.proofs.Common.{◌≡◌, ◌∙◌, ℕ, ◌+◌, ◌<◌, ◌≤◌, ◌/◌, ◌^◌, List, [], ◌∷◌, length, Option, Some, None, refl, sym, ap, subst, arith}
+use Rattle.std.proofs.Common.{◌≡◌, ◌∙◌, ℕ, ◌+◌, ◌≤◌, ◌/◌, ◌^◌, List, [], Option, Some, None, refl, sym, ap, subst, arith}
 use Rattle.std.specs.Prelude.{ℤ}
 use Rattle.perm_tree.specs.UnitTables.{Tables}
 use Rattle.perm_meaning.specs.declared.eval.frames.Final as ending
@@ -14,19 +14,19 @@ use Rattle.perm_meaning.specs.declared.eval.state.State.{State}
 use Rattle.perm_meaning.specs.declared.eval.values.Value.{Value}
 use Rattle.perm_meaning.specs.Control.{entered}
 use Rattle.perm_meaning.specs.Custody.{merged, writes_l, writes_r}
-use Rattle.perm_meaning.specs.Frames.{failure_by, final_by, turns_left}
+use Rattle.perm_meaning.specs.Frames.{final_by, turns_left}
 use Rattle.perm_meaning.specs.Joined.{end_of_par, IsJoined}
 use Rattle.perm_meaning.specs.Machine.{turns_of, Failed, Fine, GaveBack}
 use Rattle.perm_meaning.specs.Measure.{waiting_turns}
 use Rattle.perm_meaning.specs.NamedHeap.{Final, Held}
 use Rattle.perm_meaning.specs.Numbered.{all_by, Names}
-use Rattle.perm_meaning.specs.Run.{below_frame, FinalBelow, IsNext, IsSmall}
+use Rattle.perm_meaning.specs.Run.{below_frame, FinalBelow, IsNext}
 use Rattle.perm_meaning.specs.State.{final_of, joined_at, joined_fate, right_at, side_of, BeginsRight, IsEnd}
 use Rattle.perm_meaning.specs.Tied.{AllBelow, AreSame}
 use Rattle.perm_meaning.specs.Writes.{par_at}
 use Rattle.perm_meaning.proofs.Leads.{none-some, some-inj}
 use Rattle.perm_meaning.proofs.Measure.{final-turns, join-less, right-less}
-use Rattle.perm_meaning.proofs.Run.Behind.{follows-means, past-stuck, AreBelow}
+use Rattle.perm_meaning.proofs.Run.Behind.{follows-means, past-stuck}
 use Rattle.perm_meaning.proofs.State.{left-follows, left-sticks, right-follows, right-sticks}
 use Rattle.perm_meaning.proofs.Tied.Below.{all-below, all-same}
 use Rattle.perm_meaning.proofs.Unfolding.Same.{join-turns}

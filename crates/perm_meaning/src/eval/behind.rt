@@ -1,6 +1,6 @@
 //! What comes behind code that has ended.
 
-ghost use Rattle.std.specs.Prelude.{◌≡◌, ◌<◌, IfOk};
+ghost use Rattle.std.specs.Prelude.{◌≡◌, IfOk};
 ghost use Rattle.perm_tree.specs.UnitTables.{Tables};
 ghost use Rattle.perm_meaning.specs.Run.{below_frame, IsNext, IsSmall};
 ghost use Rattle.perm_meaning.specs.State.{IsEnd};

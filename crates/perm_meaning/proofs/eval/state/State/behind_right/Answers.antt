@@ -1,6 +1,5 @@
 use Rattle.std.proofs.Common.{◌∙◌, sym, subst, ap}
 use Rattle.perm_meaning.specs.declared.eval.frames.Frame.TheVariants as frames
-use Rattle.perm_meaning.specs.declared.eval.frames.Parent.{Parent}
 use Rattle.perm_meaning.specs.declared.eval.state.Fate.{Fate}
 use Rattle.perm_meaning.specs.declared.eval.state.Fate.TheVariants as fates
 use Rattle.perm_meaning.specs.declared.eval.state.State.{State}
