@@ -1,5 +1,5 @@
 -- The turn of a call statement, where other code waits.
-use Rattle.std.proofs.Common.{◌≡◌, ◌∙◌, ℕ, suc, ◌-◌, Bool, List, ◌∷◌, Option, Some, None, refl, sym, ap}
+use Rattle.std.proofs.Common.{◌≡◌, ◌∙◌, ℕ, suc, Bool, List, ◌∷◌, Option, Some, None, refl, sym, ap}
 use Rattle.std.specs.Prelude.{slice_get}
 use Rattle.perm_tree.specs.declared.ast.Method.{Method}
 use Rattle.perm_tree.specs.declared.ast.Rhs.{Rhs}
@@ -9,7 +9,7 @@ use Rattle.perm_tree.specs.declared.ast.Stmt.{Stmt}
 use Rattle.perm_tree.specs.declared.ast.StmtKind.{StmtKind}
 use Rattle.perm_tree.specs.declared.ast.StmtKind.TheVariants as kinds
 use Rattle.perm_tree.specs.declared.errors.TrapKind.{TrapKind}
-use Rattle.perm_tree.specs.Code.{Code, Do, Instruction, Routine, UnitCode}
+use Rattle.perm_tree.specs.Code.{Code, Do, Instruction, Routine}
 use Rattle.perm_tree.specs.CodeNames.{Setting, var_at}
 use Rattle.perm_tree.specs.CodeOf.{assignment, code_of, codes_of, kind_code, stmt_code}
 use Rattle.perm_tree.specs.InBody.{method_at, setting_at}
@@ -21,16 +21,15 @@ use Rattle.perm_meaning.specs.declared.eval.calls.Call.{Call}
 use Rattle.perm_meaning.specs.declared.eval.calls.Callee.TheVariants as callees
 use Rattle.perm_meaning.specs.declared.eval.own.Own as owned
 use Rattle.perm_meaning.specs.declared.eval.parts.Part.TheVariants.{Body}
-use Rattle.perm_meaning.specs.declared.eval.values.Value.{Value}
 use Rattle.perm_meaning.specs.Calling.{IsCallOf}
 use Rattle.perm_meaning.specs.Effects.{Calls, Halts, Tick, effect}
-use Rattle.perm_meaning.specs.Expressions.{assign_into, tagged}
+use Rattle.perm_meaning.specs.Expressions.{tagged}
 use Rattle.perm_meaning.specs.Invoking.{call_in, call_into}
 use Rattle.perm_meaning.specs.Machine.{Trapped}
-use Rattle.perm_meaning.specs.Meaning.{Result, Well, Gave, Handed, Fails, Full, Stuck}
-use Rattle.perm_meaning.specs.NamedHeap.{Heap, Own, marks}
+use Rattle.perm_meaning.specs.Meaning.{Fails, Stuck}
+use Rattle.perm_meaning.specs.NamedHeap.{Heap, marks}
 use Rattle.perm_meaning.specs.Names.{Mark}
-use Rattle.perm_meaning.specs.Numbered.{all_by, value_by, Names}
+use Rattle.perm_meaning.specs.Numbered.{Names}
 use Rattle.perm_meaning.specs.Parts.{code_from}
 use Rattle.perm_meaning.specs.Simple.{own_by}
 use Rattle.perm_meaning.specs.Waiting.{Waiting, ForCall, resumed}

@@ -1,5 +1,5 @@
 -- What a run comes to where a part of a method has ended, and other code waits.
-use Rattle.std.proofs.Common.{◌≡◌, ◌∙◌, ℕ, zero, suc, ◌-◌, Bool, List, [], ◌∷◌, drop, Option, Some, None, refl, sym, ap}
+use Rattle.std.proofs.Common.{◌≡◌, ◌∙◌, ℕ, suc, ◌-◌, Bool, List, ◌∷◌, Option, Some, None, refl, ap}
 use Rattle.std.specs.Prelude.{slice_get}
 use Rattle.perm_tree.specs.declared.ast.Span.{Span}
 use Rattle.perm_tree.specs.declared.errors.TrapKind.{TrapKind}
@@ -16,8 +16,8 @@ use Rattle.perm_meaning.specs.declared.eval.values.Value.{Value}
 use Rattle.perm_meaning.specs.Ends.{ended, EndsAs}
 use Rattle.perm_meaning.specs.Expressions.{tagged, assign, assign_into, clear_all}
 use Rattle.perm_meaning.specs.Machine.{Blocks, Trapped, NoTurns}
-use Rattle.perm_meaning.specs.Meaning.{Moment, Result, Fails, Handed, Gave, Stuck, set_vars}
-use Rattle.perm_meaning.specs.NamedHeap.{Final, Heap, Held, Own}
+use Rattle.perm_meaning.specs.Meaning.{Moment, Fails, Stuck, set_vars}
+use Rattle.perm_meaning.specs.NamedHeap.{Final, Heap, Own}
 use Rattle.perm_meaning.specs.Numbered.{all_by, value_by, Names}
 use Rattle.perm_meaning.specs.Parts.{code_from, end_in, stmts_in}
 use Rattle.perm_meaning.specs.Waiting.{Waiting, ForBlock, ForRecover, ForCall, ForLeft, ForRight, resumed}

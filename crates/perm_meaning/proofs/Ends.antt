@@ -12,7 +12,7 @@ use Rattle.perm_tree.specs.CodeNames.{Setting, own_vars, var_at}
 use Rattle.perm_tree.specs.InBody.{setting_at}
 use Rattle.perm_tree.specs.Scopes.{declared_at}
 use Rattle.perm_tree.specs.UnitTables.{Tables}
-use Rattle.perm_meaning.specs.declared.eval.ends.Ended.TheVariants.{Closes, Gives, Returns}
+use Rattle.perm_meaning.specs.declared.eval.ends.Ended.TheVariants.{Gives, Returns}
 use Rattle.perm_meaning.specs.declared.eval.parts.Part.TheVariants as parts
 use Rattle.perm_meaning.specs.declared.eval.values.Given.{Given}
 use Rattle.perm_meaning.specs.declared.eval.values.Value.{Value}

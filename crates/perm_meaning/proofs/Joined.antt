@@ -1,6 +1,6 @@
 -- How variables are taken from either of two lists.
-use Rattle.std.proofs.Common.{◌≡◌, ◌∙◌, ℕ, ◌<◌, ◌≤◌, min, Bool, true, false, List, [], ◌∷◌, length, drop, refl, sym, ap, arith}
-use Rattle.std.specs.Prelude.{ℤ, suc, cond, map, nat_le}
+use Rattle.std.proofs.Common.{◌≡◌, ◌∙◌, ℕ, ◌<◌, ◌≤◌, min, Bool, true, false, List, [], ◌∷◌, length, drop, refl, ap, arith}
+use Rattle.std.specs.Prelude.{suc, cond, map, nat_le}
 use Rattle.std.proofs.lemmas.Bool.Decides.{nat_tests}
 use Rattle.std.proofs.lemmas.List.{drop_all}
 use Rattle.perm_tree.specs.Vars.{Vars}

@@ -1,23 +1,22 @@
 -- Each step leaves less of a run.
-use Rattle.std.proofs.Common.{◌≡◌, ℕ, suc, ◌+◌, ◌-◌, ◌*◌, ◌/◌, ◌<◌, ◌≤◌, true, false, List, Option, Some, None, sym, ap, arith}
+use Rattle.std.proofs.Common.{◌≡◌, ℕ, suc, ◌+◌, ◌-◌, ◌*◌, ◌/◌, ◌<◌, ◌≤◌, true, false, Option, Some, None, sym, ap, arith}
 use Rattle.perm_tree.specs.declared.ast.Span.{Span}
 use Rattle.perm_meaning.specs.declared.eval.control.Tested.{Tested}
 use Rattle.perm_meaning.specs.declared.eval.control.Tested.TheVariants as tests
-use Rattle.perm_meaning.specs.declared.eval.frames.Caller.{Caller}
 use Rattle.perm_meaning.specs.declared.eval.frames.Final as ending
 use Rattle.perm_meaning.specs.declared.eval.frames.Final.TheVariants as finals
+use Rattle.perm_meaning.specs.declared.eval.frames.Frame.{Frame}
 use Rattle.perm_meaning.specs.declared.eval.frames.Frame.TheVariants as frames
 use Rattle.perm_meaning.specs.declared.eval.frames.Parent.{Parent}
 use Rattle.perm_meaning.specs.declared.eval.frames.Spot.{Spot}
-use Rattle.perm_meaning.specs.declared.eval.parts.Part.{Part}
+use Rattle.perm_meaning.specs.declared.eval.own.Own.{Own}
 use Rattle.perm_meaning.specs.declared.eval.state.Fate.{Fate}
 use Rattle.perm_meaning.specs.declared.eval.state.Fate.TheVariants as fates
 use Rattle.perm_meaning.specs.declared.eval.state.State.{State}
-use Rattle.perm_meaning.specs.declared.eval.values.Value.{Value}
 use Rattle.perm_meaning.specs.Control.{if_control, recover_control, while_control}
 use Rattle.perm_meaning.specs.Frames.{turns_left}
-use Rattle.perm_meaning.specs.Measure.{fate_weight, left_of_run, left_with, waiting_ends, waiting_turns}
-use Rattle.perm_meaning.specs.State.{behind_block, behind_call, final_of, joined_at, joined_fate, right_at, split_at, test_fate}
+use Rattle.perm_meaning.specs.Measure.{fate_weight, frame_turns, frame_weight, left_of_run, left_with, waiting_ends, waiting_turns}
+use Rattle.perm_meaning.specs.State.{final_of, joined_at, joined_fate, right_at, split_at, test_fate}
 
 -- ---------- sums ----------
 -- a turn less outweighs a frame more and any fate
@@ -63,17 +62,30 @@ pub end-less : (s : State) (f : Fate) → fate_weight f ≡ 0 → left_of_run s 
 end-less s f e = omega (arith, e)
 
 -- ---------- ends ----------
--- behind a block less is left
-pub block-less : (s : State) (p : Part) (rest : Spot) (vs : List (Option Value)) (f : Fate) → left_of_run (behind_block rest vs s) fates.Goes < left_with (frames.Block p rest) s f
-block-less s p rest vs f = omega arith
+-- every frame has ends to take
+some-ends : (f : Frame) → 2 ≤ frame_weight f
+some-ends (frames.Left p) = omega arith
+some-ends (frames.Block p rest) = omega arith
+some-ends (frames.Recover p rest) = omega arith
+some-ends (frames.Call c) = omega arith
+some-ends (frames.Right p left) = omega arith
 
--- behind a recover block
-pub recover-end-less : (s : State) (p : Part) (rest : Spot) (vs : List (Option Value)) (f : Fate) → left_of_run (behind_block rest vs s) fates.Goes < left_with (frames.Recover p rest) s f
-recover-end-less s p rest vs f = omega arith
+-- a fate has one at most
+one-end : (f : Fate) → fate_weight f ≤ 1
+one-end fates.Goes = omega arith
+one-end fates.Closes = omega arith
+one-end (fates.Gives v x) = omega arith
+one-end (fates.Returns v) = omega arith
+one-end (fates.Fails e) = omega arith
+one-end fates.Full = omega arith
+one-end fates.Sticks = omega arith
 
--- behind a call
-pub call-less : (s : State) (c : Caller) (vs : List (Option Value)) (f : Fate) → left_of_run (behind_call c vs s) fates.Goes < left_with (frames.Call c) s f
-call-less s c vs f = omega arith
+-- less is left behind a frame where the turns are the same
+pub frame-less : (s : State) (f : Frame) (own : Own) (spot : Spot) (x y : Fate) → left_of_run (record s { own = own; control = record s.control { spot = spot } }) y < left_with f s x
+frame-less s f own spot x y = sum s.turns (frame_turns f) (waiting_turns s.control.frames) (frame_weight f) (waiting_ends s.control.frames) (fate_weight x) (fate_weight y) (some-ends f) (one-end y)
+  where
+    sum : (t d n w e a b : ℕ) → 2 ≤ w → b ≤ 1 → 8 * (t + n) + (e + b) < 8 * (t + (d + n)) + ((w + e) + a)
+    sum t d n w e a b two one = omega (arith, two, one)
 
 -- where the right side of a par begins, at the turns that the left one has left
 pub right-less : (s : State) (p : Parent) (left : ending.Final) (f : Fate) → turns_left left ≡ s.turns → left_of_run (right_at p left s) fates.Goes < left_with (frames.Left p) s f

@@ -73,7 +73,7 @@ pub behind-left : (u : Tables) (p : Parent) (old new : State) (f y : Fate) → I
 behind-left u p old new f y end = go (final_of old f) refl
   where
     go : (o : Option ending.Final) → final_of old f ≡ o → BeginsRight p old o new y → Follows u (frames.Left p) old f new y
-    go None e b = subst (λ y. Follows u (frames.Left p) old f new y) (sym b) (left-sticks u p old new f end e)
+    go None e b = subst (λ y. Follows u (frames.Left p) old f new y) (sym b.0) (left-sticks u p old new f end e)
     go (Some x) e b = subst (λ y. Follows u (frames.Left p) old f new y) (sym b.0) (subst (λ new. Follows u (frames.Left p) old f new fates.Goes) (sym b.1) (left-follows u p old f x e))
 
 -- ---------- behind a par ----------

@@ -12,7 +12,6 @@ use Rattle.perm_meaning.specs.declared.eval.frames.Final.TheVariants as finals
 use Rattle.perm_meaning.specs.declared.eval.frames.Frame.{Frame}
 use Rattle.perm_meaning.specs.declared.eval.frames.Frame.TheVariants as frames
 use Rattle.perm_meaning.specs.declared.eval.frames.Spot.{Spot}
-use Rattle.perm_meaning.specs.declared.eval.own.Own.{Own}
 use Rattle.perm_meaning.specs.Machine.{Failure, Trapped, NoTurns, Fine, Failed}
 use Rattle.perm_meaning.specs.Meaning.{Result}
 use Rattle.perm_meaning.specs.Names.{Mark}

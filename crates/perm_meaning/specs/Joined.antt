@@ -1,20 +1,14 @@
 -- How the sides of a par end, with objects as numbers.
-use Rattle.std.specs.Prelude.{◌≡◌, ℕ, ℤ, Bool, List}
-use Rattle.perm_tree.specs.Code.{Code, UnitCode}
+use Rattle.std.specs.Prelude.{◌≡◌, ℕ, ℤ, List}
 use Rattle.perm_tree.specs.UnitTables.{Tables}
 use Rattle.perm_meaning.specs.declared.eval.frames.Final.{Final}
-use Rattle.perm_meaning.specs.declared.eval.frames.Final.TheVariants as finals
 use Rattle.perm_meaning.specs.declared.eval.own.Own.{Own}
 use Rattle.perm_meaning.specs.Custody.{merged, writes_l, writes_r}
-use Rattle.perm_meaning.specs.Frames.{failure_by, final_by}
+use Rattle.perm_meaning.specs.Frames.{final_by}
 use Rattle.perm_meaning.specs.Machine.{Blocks, join_final}
-use Rattle.perm_meaning.specs.Meaning.{Result, Fails}
 use Rattle.perm_meaning.specs.NamedHeap as heaps
 use Rattle.perm_meaning.specs.NamedHeap.{Heap, Held}
-use Rattle.perm_meaning.specs.Names.{Mark, after_par}
 use Rattle.perm_meaning.specs.Numbered.{all_by, Names}
-use Rattle.perm_meaning.specs.Simple.{own_by}
-use Rattle.perm_meaning.specs.Whole.{whole}
 use Rattle.perm_meaning.specs.Writes.{par_at}
 
 -- how a par of these blocks ends whose sides end so, by the variables and the printed numbers of its parent

@@ -11,9 +11,7 @@ use Rattle.perm_meaning.specs.declared.eval.frames.Final as ending
 use Rattle.perm_meaning.specs.declared.eval.frames.Spot.{Spot}
 use Rattle.perm_meaning.specs.declared.eval.parts.Part.{Part}
 use Rattle.perm_meaning.specs.declared.eval.values.Value.{Value}
-use Rattle.perm_meaning.specs.Custody.{merged, writes_l, writes_r}
 use Rattle.perm_meaning.specs.Expressions.{assign, assign_into, clear_all, tagged}
-use Rattle.perm_meaning.specs.Machine.{join_final}
 use Rattle.perm_meaning.specs.declared.eval.frames.Final.TheVariants as finals
 use Rattle.perm_meaning.specs.declared.eval.frames.Frame.{Frame}
 use Rattle.perm_meaning.specs.declared.eval.frames.Frame.TheVariants as frames
@@ -24,7 +22,7 @@ use Rattle.perm_meaning.specs.declared.eval.state.Fate.{Fate}
 use Rattle.perm_meaning.specs.declared.eval.state.Fate.TheVariants as fates
 use Rattle.perm_meaning.specs.declared.eval.state.State.{State}
 use Rattle.perm_meaning.specs.Control.{behind, entered}
-use Rattle.perm_meaning.specs.Frames.{code_at, failure_by, final_by, AmountsTo}
+use Rattle.perm_meaning.specs.Frames.{code_at, failure_by, AmountsTo}
 use Rattle.perm_meaning.specs.Meaning.{Result, Well, Gave, Handed, Fails, Full, Stuck}
 use Rattle.perm_meaning.specs.Names.{Mark}
 use Rattle.perm_meaning.specs.NamedHeap.{Heap}
@@ -34,7 +32,6 @@ use Rattle.perm_meaning.specs.Parts.{own_in}
 use Rattle.perm_meaning.specs.Tied.{moment_by}
 use Rattle.perm_meaning.specs.Waiting.{Waiting}
 use Rattle.perm_meaning.specs.Whole.{whole}
-use Rattle.perm_meaning.specs.Writes.{par_at}
 
 -- ---------- what a state comes to ----------
 -- the end that the fate of a state tells of, of a branch with this mark
@@ -97,7 +94,7 @@ right_at p left s = record s { own = side_of p.own; turns = p.turns / 2; control
 
 -- the right side begins where the left one has ended, and else nothing is meant
 abbrev pub BeginsRight : Parent → State → Option ending.Final → State → Fate → Type 0
-BeginsRight p old None new y = y ≡ fates.Sticks
+BeginsRight p old None new y = (y ≡ fates.Sticks) × (new ≡ record old { own = new.own })
 BeginsRight p old (Some left) new y = (y ≡ fates.Goes) × (new ≡ right_at p left old)
 
 -- ---------- behind a par ----------

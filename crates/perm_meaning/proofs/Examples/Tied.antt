@@ -1,15 +1,12 @@
 -- A branch makes an array of three elements at the opening: it has room in a heap of five words and none in one of four.
-use Rattle.std.specs.Prelude.{◌≡◌, ℕ, zero, suc, false, pos, List, [], ◌∷◌, Option, Some, None, refl, length, slice_get}
+use Rattle.std.specs.Prelude.{◌≡◌, ℕ, zero, suc, pos, [], ◌∷◌, Some, None, refl}
 use Rattle.perm_tree.specs.Code.{LongLit, NewArray, UnitCode}
-use Rattle.perm_tree.specs.declared.ast.Shape.TheVariants.{Array}
 use Rattle.perm_tree.specs.declared.ast.Span.{Span}
-use Rattle.perm_meaning.specs.declared.eval.answers.Answer.TheVariants.{Found, Refused}
 use Rattle.perm_meaning.specs.declared.eval.asks.Ask.TheVariants as asks
 use Rattle.perm_meaning.specs.declared.eval.asks.Asked.TheVariants as asked
 use Rattle.perm_meaning.specs.declared.eval.asks.Told.TheVariants as told
 use Rattle.perm_meaning.specs.declared.eval.own.Own.{Own}
 use Rattle.perm_meaning.specs.declared.eval.step.Step.TheVariants as steps
-use Rattle.perm_meaning.specs.declared.eval.values.Value.{Value}
 use Rattle.perm_meaning.specs.declared.eval.values.Value.TheVariants.{Number, Reference}
 use Rattle.perm_meaning.specs.Meaning.{fail, Full}
 use Rattle.perm_meaning.specs.Machine.{NoTurns}
@@ -17,7 +14,7 @@ use Rattle.perm_meaning.specs.Names.{root_mark}
 use Rattle.perm_meaning.specs.Outcome.{opening_heap}
 use Rattle.perm_meaning.specs.Simple.{Asks}
 use Rattle.perm_meaning.specs.Stepping.{meant, At, Comes}
-use Rattle.perm_meaning.specs.Stored.{Answers, Stored}
+use Rattle.perm_meaning.specs.Stored.{Stored}
 use Rattle.perm_meaning.specs.Tied.{opening_names, opening_stored, AllBelow, IsTied, SlotBelow}
 use Rattle.perm_meaning.proofs.Leads.{none-some, some-inj}
 use Rattle.perm_meaning.proofs.Made.{array-start}

@@ -15,19 +15,18 @@ use Rattle.perm_meaning.specs.declared.eval.values.Value.{Value}
 use Rattle.perm_meaning.specs.declared.eval.values.Value.TheVariants as held
 use Rattle.perm_meaning.specs.Asking.{op_by}
 use Rattle.perm_meaning.specs.Effects.{Load, Make, Store, Take, Tick}
-use Rattle.perm_meaning.specs.NamedHeap as heaps
 use Rattle.perm_meaning.specs.NamedHeap.{Heap, Held, allocated, found, found_nothing, stored}
 use Rattle.perm_meaning.specs.Names.{Name, Mark, after_object, next_name, same_name}
 use Rattle.perm_meaning.specs.Numbered.{value_by, Names}
-use Rattle.perm_meaning.specs.Objects.{Object, Objects, add, field_types, first_values, length_of, new_object, put, size}
-use Rattle.perm_meaning.specs.Stored.{found_there, found_value, put_at, put_in, value_at, value_of_object, Answers, AreApart, IsStored, Makes, MakesOne, StartsAs, Stored}
-use Rattle.perm_meaning.specs.Tied.{next_mark, AreSame, AreTied, AskBelow, FieldsBelow, GivesAtMost, Grows, Heard, IsAnswered, IsBelow}
+use Rattle.perm_meaning.specs.Objects.{add, field_types, first_values, length_of, new_object, size}
+use Rattle.perm_meaning.specs.Stored.{found_there, found_value, put_at, put_in, value_at, value_of_object, Answers, AreApart, IsStored, MakesOne, StartsAs, Stored}
+use Rattle.perm_meaning.specs.Tied.{next_mark, AreSame, AreTied, AskBelow, FieldsBelow, Grows, Heard, IsBelow}
 use Rattle.perm_meaning.specs.Steps.{Answer, Found, Refused}
 use Rattle.perm_meaning.specs.Unborn.{AreUnborn}
 use Rattle.perm_meaning.specs.Values as values
 use Rattle.perm_meaning.proofs.Leads.{none-some, some-inj}
-use Rattle.perm_meaning.proofs.Stored.{found-field, get-same, last-or, set-length, stored-field, stored-new, within}
-use Rattle.perm_meaning.proofs.Tied.Below.{value-below, value-more, value-same, values-same}
+use Rattle.perm_meaning.proofs.Stored.{found-field, last-or, set-length, stored-field, stored-new, within}
+use Rattle.perm_meaning.proofs.Tied.Below.{value-below, value-more, values-same}
 use Rattle.perm_meaning.proofs.Unborn.{next-unborn, put-unborn, still-unborn}
 
 -- ---------- values that are put ----------

@@ -1,5 +1,5 @@
 -- A branch that goes on after it has made an object has the mark of one object more.
-use Rattle.std.proofs.Common.{◌≡◌, ℕ, Bool, true, false, ℤ, pos, negsuc, List, [], ◌∷◌, ◌++◌, length, Option, Some, None, refl, sym, ap, cond}
+use Rattle.std.proofs.Common.{◌≡◌, ℕ, Bool, true, false, ℤ, pos, negsuc, List, [], ◌∷◌, ◌++◌, length, Option, Some, None, sym, ap, cond}
 use Rattle.std.specs.Prelude.{nat_eq, nat_lt, slice_get}
 use Rattle.perm_tree.specs.declared.ast.Ty.{Ty}
 use Rattle.perm_tree.specs.declared.errors.TrapKind.TheVariants.{IndexOutOfRange, StackOverflow}
@@ -7,7 +7,7 @@ use Rattle.perm_tree.specs.declared.ast.Shape.{Shape}
 use Rattle.perm_tree.specs.declared.ast.Shape.TheVariants.{Class, Array}
 use Rattle.perm_tree.specs.Code.{Argument, Expression, Consumed, Instruction, Declare, Assign, LoadField, LoadLength, LoadItem, TakeField, NewObject, NewArray, StoreField, StoreItem, Invoke, Print, Routine, UnitCode}
 use Rattle.perm_meaning.specs.Asking.{Way}
-use Rattle.perm_meaning.specs.Effects.{Act, Calls, Does, GoesOn, Halts, Load, Make, Resumption, Sticks, Store, Take, Tick, below_limit, choose, depth_limit, effect, if_number, makes, made, on_argument, on_arguments, on_call, on_class, on_index, on_length, on_number, on_object, on_referred, on_routine, on_value}
+use Rattle.perm_meaning.specs.Effects.{Act, Calls, Does, GoesOn, Halts, Load, Make, Sticks, Store, Take, Tick, below_limit, choose, depth_limit, effect, if_number, makes, on_argument, on_arguments, on_call, on_class, on_index, on_length, on_number, on_object, on_referred, on_routine, on_value}
 use Rattle.perm_meaning.specs.Expressions.{clear, eval, look_up, tagged}
 use Rattle.perm_meaning.specs.NamedHeap.{Held, Own, marks}
 use Rattle.perm_meaning.specs.Names.{Mark, Name, after_object}

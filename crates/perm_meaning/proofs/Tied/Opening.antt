@@ -1,5 +1,5 @@
 -- The two objects of the opening are tied.
-use Rattle.std.proofs.Common.{◌≡◌, ◌∙◌, ℕ, zero, suc, ◌<◌, ℤ, List, [], ◌∷◌, ◌++◌, length, Option, Some, None, inl, inr, refl, sym, ap, arith}
+use Rattle.std.proofs.Common.{◌≡◌, ◌∙◌, ℕ, zero, suc, ◌<◌, ℤ, List, [], ◌∷◌, length, Option, Some, inl, inr, refl, sym, ap, arith}
 use Rattle.std.specs.Prelude.{map, slice_get}
 use Rattle.std.proofs.lemmas.List.{length-append}
 use Rattle.perm_tree.specs.declared.ast.Shape.{Shape}
@@ -10,11 +10,11 @@ use Rattle.perm_meaning.specs.declared.eval.values.Value.{Value}
 use Rattle.perm_meaning.specs.declared.eval.values.Value.TheVariants as held
 use Rattle.perm_meaning.specs.Effects.{first_vars}
 use Rattle.perm_meaning.specs.Expressions.{tagged}
-use Rattle.perm_meaning.specs.Names.{input_name, root_mark, root_name, same_name, Name, Path, Side}
+use Rattle.perm_meaning.specs.Names.{input_name, root_mark, root_name, same_name, Name, Path}
 use Rattle.perm_meaning.specs.Numbered.{all_by, value_by, Names}
-use Rattle.perm_meaning.specs.Objects.{add, first_values, input_object, new_object, no_objects, Object}
+use Rattle.perm_meaning.specs.Objects.{add, first_values, input_object, new_object, no_objects}
 use Rattle.perm_meaning.specs.Outcome.{opening, opening_heap}
-use Rattle.perm_meaning.specs.Stored.{value_of_object, AreApart, IsStored, StartsAs}
+use Rattle.perm_meaning.specs.Stored.{AreApart, IsStored, StartsAs}
 use Rattle.perm_meaning.specs.Tied.{moment_by, opening_names, opening_stored, AllBelow, AreTied, FieldsBelow, IsTied}
 use Rattle.perm_meaning.specs.Unborn.{AreUnborn, IsAhead}
 use Rattle.perm_meaning.specs.Values as values

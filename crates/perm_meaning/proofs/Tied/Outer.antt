@@ -1,5 +1,5 @@
 -- What a branch makes gives no name that a branch has still to give that waits for it.
-use Rattle.std.proofs.Common.{◌≡◌, ◌∙◌, ℕ, ◌<◌, List, [], ◌∷◌, ◌++◌, inl, inr, refl, sym, ap, append_assoc, subst}
+use Rattle.std.proofs.Common.{◌≡◌, ◌∙◌, ℕ, ◌<◌, [], ◌∷◌, ◌++◌, inl, inr, sym, ap, append_assoc, subst}
 use Rattle.perm_meaning.specs.Names.{side_mark, Mark, Name, OnLeft, OnRight, Path, Side}
 use Rattle.perm_meaning.specs.Objects.{Objects}
 use Rattle.perm_meaning.specs.Tied.{GivesAtMost}

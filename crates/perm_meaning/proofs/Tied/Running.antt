@@ -1,16 +1,15 @@
 -- What a branch makes of what it has refers to no object that isn't there, and what comes of a statement where other code waits.
-use Rattle.std.proofs.Common.{◌≡◌, ◌∙◌, ℕ, suc, List, [], Option, Some, None, refl, sym, ap, subst}
+use Rattle.std.proofs.Common.{◌≡◌, ◌∙◌, ℕ, suc, List, [], Option, Some, None, sym, ap}
 use Rattle.perm_tree.specs.declared.ast.Span.{Span}
 use Rattle.perm_tree.specs.Code.{Code, Do, Instruction, UnitCode}
 use Rattle.perm_meaning.specs.declared.eval.own.Own as owned
-use Rattle.perm_meaning.specs.declared.eval.values.Given.{Given}
 use Rattle.perm_meaning.specs.declared.eval.values.Given.TheVariants as given
 use Rattle.perm_meaning.specs.declared.eval.values.Value.{Value}
 use Rattle.perm_meaning.specs.Asking.{Way}
 use Rattle.perm_meaning.specs.Effects.{effect, ticks, Act, Calling, Calls, Does, GoesOn, Halts, Sticks}
 use Rattle.perm_meaning.specs.Expressions.{tagged}
 use Rattle.perm_meaning.specs.Meaning.{then_do, Result}
-use Rattle.perm_meaning.specs.NamedHeap.{marks, Heap, Held, Own}
+use Rattle.perm_meaning.specs.NamedHeap.{marks, Heap, Held}
 use Rattle.perm_meaning.specs.Names.{Mark}
 use Rattle.perm_meaning.specs.Numbered.{all_by, given_by, held_by, Names}
 use Rattle.perm_meaning.specs.Simple.{own_by}

@@ -1,5 +1,5 @@
 -- One simple statement keeps the tie, and what comes of it is what the meaning says.
-use Rattle.std.proofs.Common.{◌≡◌, ◌∙◌, ℕ, ◌≤◌, ℤ, List, [], Option, Some, None, refl, sym, ap, subst, length}
+use Rattle.std.proofs.Common.{◌≡◌, ◌∙◌, ℕ, ℤ, List, [], Option, Some, None, refl, sym, ap, subst, length}
 use Rattle.perm_tree.specs.declared.errors.TrapKind.{TrapKind}
 use Rattle.perm_tree.specs.declared.errors.TrapKind.TheVariants.{Overflow}
 use Rattle.perm_tree.specs.declared.ast.Shape.{Shape}
@@ -15,22 +15,21 @@ use Rattle.perm_meaning.specs.declared.eval.own.Own as owned
 use Rattle.perm_meaning.specs.declared.eval.step.Step.TheVariants as steps
 use Rattle.perm_meaning.specs.declared.eval.values.Value.{Value}
 use Rattle.perm_meaning.specs.Asking.{asked_by, op_by, told_by, Way}
-use Rattle.perm_meaning.specs.Effects.{Act, Calls, Does, GoesOn, Halts, Load, Make, Resumption, Sticks, Store, Take, Tick, effect}
+use Rattle.perm_meaning.specs.Effects.{Act, Does, GoesOn, Halts, Load, Make, Sticks, Store, Take, Tick, effect}
 use Rattle.perm_meaning.specs.Expressions.{tagged}
 use Rattle.perm_meaning.specs.Machine.{Trapped}
-use Rattle.perm_meaning.specs.Meaning.{answered, doing, perform, Fails, Full, Moment, Result, Stuck, Well}
-use Rattle.perm_meaning.specs.NamedHeap.{after, find, marks, Heap, Held, Op, Own}
+use Rattle.perm_meaning.specs.Meaning.{answered, doing, perform, Fails, Full, Stuck}
+use Rattle.perm_meaning.specs.NamedHeap.{after, find, marks, Held, Op, Own}
 use Rattle.perm_meaning.specs.Names.{Mark, Name, after_object}
-use Rattle.perm_meaning.specs.Numbered.{all_by, held_by, value_by, Names}
+use Rattle.perm_meaning.specs.Numbered.{held_by, Names}
 use Rattle.perm_meaning.specs.Objects.{Objects}
 use Rattle.perm_meaning.specs.Simple.{own_by, Asks}
-use Rattle.perm_meaning.specs.Stepping.{meant, At, Comes, HasGone, HasTrapped, IsStep}
+use Rattle.perm_meaning.specs.Stepping.{meant, At, Comes, HasGone, HasTrapped}
 use Rattle.perm_meaning.specs.Steps.{within, Answer, Found, Missing, Refused}
 use Rattle.perm_meaning.specs.Stored.{Answers, Stored}
-use Rattle.perm_meaning.specs.Telling.{act_by, mark_after, IsLeft}
-use Rattle.perm_meaning.specs.Tied.{moment_by, next_mark, AllBelow, AreSame, AskBelow, Heard, IsAnswered, IsBelow, IsTied}
+use Rattle.perm_meaning.specs.Telling.{act_by, mark_after}
+use Rattle.perm_meaning.specs.Tied.{moment_by, next_mark, AllBelow, AreSame, AskBelow, Heard, IsAnswered, IsTied}
 use Rattle.perm_meaning.specs.Unborn.{AreUnborn}
-use Rattle.perm_meaning.specs.Values as values
 use Rattle.perm_meaning.proofs.Leads.{some-inj}
 use Rattle.perm_meaning.proofs.Tied.Answering.{heard}
 use Rattle.perm_meaning.proofs.Tied.Below.{all-below, all-same, number-below, same-fewer, slot-same, value-below}

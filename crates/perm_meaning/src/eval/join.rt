@@ -17,25 +17,22 @@ use perm_tree::errors::NoMemory;
 use perm_tree::list::{List, Numbers};
 use perm_tree::unit::Unit;
 use std::alloc::Global;
+use std::mem;
 
-/// How the par at a place ends, by what its parent has and by how its sides end.
+/// How the par at a place ends, by what its parent has and by how its sides end. What the parent has printed is taken out.
 pub fn joined(
     alloc: Global,
     unit: &Unit,
     at: u32,
-    parent: Own,
+    parent: &mut Own,
     left: Final,
     right: Final,
 ) -> Result<Final, NoMemory>
     requires { turns_left left + turns_left right < 2 ^ 64 }
-    ensures { IfOk result (IsJoined unit.now at parent left right) }
+    ensures ends { IfOk result (IsJoined unit.now at parent.old left right) }
+    ensures same { parent.new ≡ record parent.old { printed = parent.new.printed } }
 {
-    let Own {
-        vars,
-        method,
-        depth,
-        printed,
-    } = parent;
+    let printed = mem::replace(&mut parent.printed, List::new(alloc));
     match left {
         Final::Failed(failure, turns, own) => {
             let printed = appended(printed, own)?;
@@ -43,38 +40,33 @@ pub fn joined(
         }
         Final::Fine(left, turns, own) => {
             let printed = appended(printed, own)?;
-            let parent = Own {
-                vars,
-                method,
-                depth,
-                printed,
-            };
-            after_left(alloc, unit, at, parent, left, turns, right)
+            after_left(alloc, unit, at, parent, printed, left, turns, right)
         }
     }
 }
 
-/// The same where the left side went well, and the parent's list has what that printed.
+/// The same where the left side went well, and the printed numbers have those of that side.
 fn after_left(
     alloc: Global,
     unit: &Unit,
     at: u32,
-    parent: Own,
+    parent: &Own,
+    printed: Numbers,
     left: List<Option<Value>>,
     turns: u64,
     right: Final,
 ) -> Result<Final, NoMemory>
     requires { turns + turns_left right < 2 ^ 64 }
-    ensures { IfOk result (λ f. (names : Names) (out p : List ℤ) → parent.printed ≡ out ++ p → final_by names f ≡ end_of_par (par_at unit.now parent.«method» at) (all_by names parent.vars) out (Fine (all_by names left) turns p) (final_by names right)) }
+    ensures { IfOk result (λ f. (names : Names) (out p : List ℤ) → printed ≡ out ++ p → final_by names f ≡ end_of_par (par_at unit.now parent.now.«method» at) (all_by names parent.now.vars) out (Fine (all_by names left) turns p) (final_by names right)) }
 {
     match right {
         Final::Failed(failure, more, own) => {
-            let printed = appended(parent.printed, own)?;
+            let printed = appended(printed, own)?;
             Ok(Final::Failed(failure, turns + more, printed))
         }
         Final::Fine(right, more, own) => {
-            let vars = merged(alloc, unit, at, &parent, left.as_slice(), right.as_slice())?;
-            let printed = appended(parent.printed, own)?;
+            let vars = merged(alloc, unit, at, parent, left.as_slice(), right.as_slice())?;
+            let printed = appended(printed, own)?;
             Ok(Final::Fine(vars, turns + more, printed))
         }
     }

@@ -11,8 +11,8 @@ use Rattle.perm_meaning.proofs.eval.join.after_left.Goals as goal
 
 pub returns : goal.returns
 returns c names out p e =
-    let pr = par_at c.args.unit.now c.args.parent.«method» c.args.at in
-    let vs = all_by names c.args.parent.vars in
+    let pr = par_at c.args.unit.now c.args.parent.now.«method» c.args.at in
+    let vs = all_by names c.args.parent.now.vars in
     let vars = c.in_ok-vars-in-Fine.ensures names
     ∙ (λ i. merged (writes_l pr) (writes_r pr) vs (all_by names (c.as_slice.ensures i)) (all_by names (c.as_slice-in-Fine.ensures i))) in
     let printed = c.in_ok-printed-in-Fine.ensures ∙ ap (λ (l : List ℤ). l ++ c.in-Fine.own) e ∙ append_assoc out p c.in-Fine.own in

@@ -1,8 +1,7 @@
-use Rattle.std.proofs.Common.{◌≡◌, ◌∙◌, List, ℤ, Option, Some, None, refl, sym, ap, subst}
+use Rattle.std.proofs.Common.{◌≡◌, ◌∙◌, Option, ap, subst}
 use Rattle.perm_tree.specs.declared.errors.TrapKind.{TrapKind}
 use Rattle.perm_tree.specs.CodeOf.{code_of}
 use Rattle.perm_meaning.specs.declared.eval.answers.Answer.{Answer}
-use Rattle.perm_meaning.specs.declared.eval.asks.Asked.{Asked}
 use Rattle.perm_meaning.specs.declared.eval.own.Own.{Own}
 use Rattle.perm_meaning.specs.Asking.{told_by}
 use Rattle.perm_meaning.specs.Names.{Mark}
