@@ -46,10 +46,17 @@ join-joined-requires-clause-few c =
     few-here u k r s t a c.pop.new.self.items c.in-Some-pop.parent c.in-Some-pop.ensures.items (few-variables c.unit.ensures c.resolved.ensures.resolved)
 
 pub returns-in-Ok-clause-joined : goal.returns-in-Ok-clause-joined
-returns-in-Ok-clause-joined c s t sides = by c.args.left.now c.args.right.now sides
-  where
-    by : (k r : Stack) → goal.returns-in-Ok-clause-joined
-    by = ?
+returns-in-Ok-clause-joined c s t sides =
+    let k : Stack = record { bodies = c.left.inside.bodies.now; leaf = c.left.inside.leaf; parents = c.left.inside.parents.items; on_right = c.left.inside.on_right } in
+    let r : Stack = record { bodies = c.right.inside.bodies.now; leaf = c.right.inside.leaf; parents = c.right.inside.parents.items; on_right = c.right.inside.on_right } in
+    let u = code_of c.args.checked.now in
+    let made : leaves.Leaf = record { control = c.join-joined.new.self; ending = c.in-Ok.ending } in
+    let new : Stack = record { bodies = k.bodies; leaf = made; parents = c.pop.new.self.items; on_right = k.on_right } in
+    let joined = λ (a : AreSides u k r s t).
+    rejoins u k r s t a c.pop.new.self.items c.in-Some-pop.parent c.in-Some-pop.ensures.items (few-variables c.unit.ensures c.resolved.ensures.resolved) c.in-Some.left_end c.in-Some-end.right_end c.in-Some.ensures c.in-Some-end.ensures c.checked.ensures c.join-joined.new.self c.in-Ok.ending c.in-Ok.ensures.joins in
+    subst (λ (r : Stack). (a : AreSides u c.args.left.now r s t) → Rejoins u new s a.parent a.outer a.left_end a.right_end) c.right.view_is
+    (subst (λ (k : Stack). (a : AreSides u k r s t) → Rejoins u new s a.parent a.outer a.left_end a.right_end) c.left.view_is joined)
+    sides
 
 pub returns-in-Err-clause-means : goal.returns-in-Err-clause-means
 returns-in-Err-clause-means c s m =
