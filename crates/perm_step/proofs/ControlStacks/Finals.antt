@@ -1,8 +1,6 @@
 -- How the branch of a control stack has ended, and what is told of a root.
-use Rattle.std.proofs.Common.{◌≡◌, ◌≢◌, ℕ, Option, Some, None, refl, sym, ap, ◌∙◌}
-use Rattle.std.specs.Prelude.{ℤ}
+use Rattle.std.proofs.Common.{◌≡◌, ◌≢◌, ℕ, Some, None, refl, sym, ap, ◌∙◌}
 use Rattle.perm_tree.specs.Code.{UnitCode}
-use Rattle.perm_meaning.specs.declared.End.{End}
 use Rattle.perm_meaning.specs.Machine as machines
 use Rattle.perm_meaning.specs.Told.{told_end}
 use Rattle.perm_meaning.specs.WordHeap.{Branch}
@@ -12,8 +10,8 @@ use Rattle.perm_step.specs.declared.pars.Final.{Final}
 use Rattle.perm_step.specs.declared.pars.Final.TheVariants as finals
 use Rattle.perm_step.specs.ParMoves.{final_of, EndsAs}
 use Rattle.perm_step.specs.StemMoves.{IsFinished, TellsEnd}
-use Rattle.perm_step.specs.Stems.{HasStep, IsOver, Means, Stack, Stem}
-use Rattle.perm_step.specs.Working.{Working, locals}
+use Rattle.perm_step.specs.Stems.{IsOver, Means, Stack, Stem}
+use Rattle.perm_step.specs.Working.{Working}
 use Rattle.perm_step.proofs.ControlStacks.StemSteps.{leaf-is, over-as, step-due}
 use Rattle.perm_step.proofs.WholeRuns.Comings.{leaf-turns}
 

@@ -1,5 +1,5 @@
 -- The parent of two ended sides that control stacks mean, and what their join makes of it.
-use Rattle.std.proofs.Common.{◌≡◌, ◌≢◌, ℕ, ℤ, ◌+◌, ◌<◌, ◌≤◌, ◌^◌, List, [], ◌∷◌, ◌++◌, length, Option, Some, None, ◌⊎◌, inl, inr, refl, sym, ap, ◌∙◌, subst, arith}
+use Rattle.std.proofs.Common.{◌≡◌, ◌≢◌, ℕ, ◌+◌, ◌<◌, ◌≤◌, ◌^◌, List, [], ◌∷◌, ◌++◌, length, Option, Some, None, ◌⊎◌, inl, inr, refl, sym, ap, ◌∙◌, subst, arith}
 use Rattle.std.specs.Prelude.{reverse, slice_get}
 use Rattle.std.proofs.lemmas.List.{reverse-append}
 use Rattle.perm_tree.specs.declared.bodies.Bodies.{Bodies}
@@ -13,7 +13,6 @@ use Rattle.perm_meaning.specs.Custody.{Copies}
 use Rattle.perm_meaning.specs.Machine as machines
 use Rattle.perm_meaning.specs.Machine.{Leaf, join_of, over, resumed, stage}
 use Rattle.perm_meaning.specs.WordHeap.{Branch, worded}
-use Rattle.perm_meaning.proofs.Leads.{some-inj}
 use Rattle.perm_core.specs.Claims.{IsChecked}
 use Rattle.perm_step.specs.declared.control.Ending.{Ending}
 use Rattle.perm_step.specs.declared.control.Ending.TheVariants as endings
@@ -21,18 +20,17 @@ use Rattle.perm_step.specs.declared.control.Leaf as leaves
 use Rattle.perm_step.specs.declared.pars.Final.{Final}
 use Rattle.perm_step.specs.declared.pars.Final.TheVariants as finals
 use Rattle.perm_step.specs.Events.{HasVariables, IsSound, JoinMakes}
-use Rattle.perm_step.specs.ParMoves.{final_of, EndsAs, IsWaiting, Joins, JoinsBy}
-use Rattle.perm_step.specs.Runs.{HasFewVariables, IsParent, IsSoundLeaf}
-use Rattle.perm_step.specs.Standing.{blocks_of, branch_of, leaf_branch, parent_branch}
+use Rattle.perm_step.specs.ParMoves.{final_of, EndsAs, IsWaiting, Joins}
+use Rattle.perm_step.specs.Runs.{HasFewVariables, IsParent}
+use Rattle.perm_step.specs.Standing.{blocks_of, leaf_branch, parent_branch}
 use Rattle.perm_step.specs.StemMoves.{AreSides, Rejoins}
-use Rattle.perm_step.specs.Stems.{parent_of, parents_of, stem_of, AreParents, HasStep, IsOver, Means, Parent, Stack, Stem}
+use Rattle.perm_step.specs.Stems.{parent_of, parents_of, stem_of, AreParents, Means, Parent, Stack, Stem}
 use Rattle.perm_step.specs.Working.{Working, locals}
 use Rattle.perm_step.proofs.ControlStacks.Finals.{end-is, turns-are}
 use Rattle.perm_step.proofs.ControlStacks.StemSteps.{leaf-is}
 use Rattle.perm_step.proofs.StepEvents.{step-claims}
 use Rattle.perm_step.proofs.StepClaims.{StepClaims}
 use Rattle.perm_step.proofs.TwoSides.JoinVariables.{ended-variables}
-use Rattle.perm_step.proofs.WholeRuns.Comings.{leaf-turns}
 use Rattle.perm_step.proofs.WholeRuns.Weights.{joined-at}
 
 -- ---------- variables ----------

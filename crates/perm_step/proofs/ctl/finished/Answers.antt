@@ -1,11 +1,12 @@
-use Rattle.std.proofs.Common.{rules, ◌≡◌, ℕ, ◌≤◌, ◌^◌, ◌↔◌, IfErr, IfOk, IsTrue, OnErr, ◌+◌, ◌-◌, ◌*◌, ◌<◌, length, ◌/◌, ◌%◌, Bool, true, false, nat_eq, nat_lt, List, [], ◌∷◌, ◌++◌, slice_index_or, slice_set, bit_and, bit_or, Fits, w8, w32, w64, Bor, MutBor}
-use Rattle.perm_tree.specs.Code.{UnitCode}
-use Rattle.perm_tree.specs.CodeOf.{code_of}
-use Rattle.perm_meaning.specs.Machine.{Final}
-use Rattle.perm_step.specs.Stems.{op_for, HasRoom, IsNext, IsReady, IsRootStack, Means, Stem}
-use Rattle.perm_step.specs.StemMoves.{word_by, AreSides, Begins, Forks, IsAnswered, IsAnswerFor, IsAtFork, IsFinished, Rejoins, Resumes, TellsEnd}
+use Rattle.std.proofs.Common.{◌∙◌, sym, subst}
+use Rattle.perm_step.specs.StemMoves.{IsFinished}
+use Rattle.perm_step.specs.Stems.{Stack}
+use Rattle.perm_step.proofs.ControlStacks.Finals.{tells-end}
 use Rattle.perm_step.proofs.ctl.finished.Goals as goal
 
--- src/ctl.rt:215:1
 pub returns : goal.returns
-returns c = ?
+returns c u s f finished =
+    let k : Stack = record { bodies = c.ctl.inside.bodies.now; leaf = c.ctl.inside.leaf; parents = c.ctl.inside.parents.items; on_right = c.ctl.inside.on_right } in
+    let is = subst (λ (k : Stack). IsFinished u k s f) (sym c.ctl.view_is) finished in
+    tells-end u k s f is c.in-Some.end c.in-Some.ensures (record { end = c.told_end.result; printed = c.from_vec.result; left = c.into_printed-printed.result.1 })
+    c.told_end.ensures (c.from_vec.ensures ∙ c.into_printed-printed.ensures.0) c.into_printed-printed.ensures.1

@@ -1,12 +1,12 @@
 use Rattle.std.proofs.Common.{◌≡◌, []}
-use Rattle.std.proofs.Common.{◌++◌, ◌∷◌, List, sym, ap, ◌∙◌, subst}
+use Rattle.std.proofs.Common.{◌++◌, ◌∷◌, List, sym, subst}
 use Rattle.perm_tree.specs.CodeOf.{code_of}
 use Rattle.perm_step.specs.declared.control.Leaf as leaves
 use Rattle.perm_step.specs.StemMoves.{AreSides, Rejoins}
 use Rattle.perm_step.specs.Stems.{Means, Stack}
 use Rattle.perm_step.specs.Working.{Working}
 use Rattle.perm_step.proofs.ControlStacks.Finals.{not-due}
-use Rattle.perm_step.proofs.ControlStacks.Joins.{few-here, few-variables, kept-means, lefts-fit, rejoins, rights-fit, some-parent, turns-fit, waits-so}
+use Rattle.perm_step.proofs.ControlStacks.Joins.{few-here, few-variables, kept-means, rejoins, rights-fit}
 use Rattle.perm_step.proofs.ctl.join.Goals as goal
 
 pub unreachable-requires : goal.unreachable-requires
