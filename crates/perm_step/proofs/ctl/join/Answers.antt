@@ -6,7 +6,7 @@ use Rattle.perm_step.specs.StemMoves.{AreSides, Rejoins}
 use Rattle.perm_step.specs.Stems.{Means, Stack}
 use Rattle.perm_step.specs.Working.{Working}
 use Rattle.perm_step.proofs.ControlStacks.Finals.{not-due}
-use Rattle.perm_step.proofs.ControlStacks.Joins.{few-here, few-variables, kept-means, rejoins, rights-fit}
+use Rattle.perm_step.proofs.ControlStacks.Joins.{few-here, few-variables, kept-means, lefts-fit, rejoins, rights-fit, turns-fit, waits-so}
 use Rattle.perm_step.proofs.ctl.join.Goals as goal
 
 pub unreachable-requires : goal.unreachable-requires
@@ -24,6 +24,36 @@ unreachable-requires-in_default-end c =
     let t = c.requires.sides.1 in
     let a = c.requires.sides.2 in
     not-due u k t (subst (λ (k : Stack). Means u k t) (sym c.right.view_is) a.on_right) a.right_end a.right_over c.in_default-end.ensures
+
+pub join-joined-requires-clause-par : goal.join-joined-requires-clause-par
+join-joined-requires-clause-par c =
+    let k : Stack = record { bodies = c.left.inside.bodies.now; leaf = c.left.inside.leaf; parents = c.left.inside.parents.items; on_right = c.left.inside.on_right } in
+    let r : Stack = record { bodies = c.right.inside.bodies.now; leaf = c.right.inside.leaf; parents = c.right.inside.parents.items; on_right = c.right.inside.on_right } in
+    let u = code_of c.args.checked.now in
+    let s = c.requires.sides.0 in
+    let t = c.requires.sides.1 in
+    let a = subst (λ (k : Stack). AreSides u k r s t) (sym c.left.view_is) (subst (λ (r : Stack). AreSides u c.args.left.now r s t) (sym c.right.view_is) c.requires.sides.2) in
+    waits-so u k r s t a c.pop.new.self.items c.in-Some-pop.parent c.in-Some-pop.ensures.items (few-variables c.unit.ensures c.resolved.ensures.resolved)
+
+pub join-joined-requires-clause-turns : goal.join-joined-requires-clause-turns
+join-joined-requires-clause-turns c =
+    let k : Stack = record { bodies = c.left.inside.bodies.now; leaf = c.left.inside.leaf; parents = c.left.inside.parents.items; on_right = c.left.inside.on_right } in
+    let r : Stack = record { bodies = c.right.inside.bodies.now; leaf = c.right.inside.leaf; parents = c.right.inside.parents.items; on_right = c.right.inside.on_right } in
+    let u = code_of c.args.checked.now in
+    let s = c.requires.sides.0 in
+    let t = c.requires.sides.1 in
+    let a = subst (λ (k : Stack). AreSides u k r s t) (sym c.left.view_is) (subst (λ (r : Stack). AreSides u c.args.left.now r s t) (sym c.right.view_is) c.requires.sides.2) in
+    turns-fit u k r s t a c.pop.new.self.items c.in-Some-pop.parent c.in-Some-pop.ensures.items (few-variables c.unit.ensures c.resolved.ensures.resolved)
+
+pub join-joined-requires-clause-lefts : goal.join-joined-requires-clause-lefts
+join-joined-requires-clause-lefts c =
+    let k : Stack = record { bodies = c.left.inside.bodies.now; leaf = c.left.inside.leaf; parents = c.left.inside.parents.items; on_right = c.left.inside.on_right } in
+    let r : Stack = record { bodies = c.right.inside.bodies.now; leaf = c.right.inside.leaf; parents = c.right.inside.parents.items; on_right = c.right.inside.on_right } in
+    let u = code_of c.args.checked.now in
+    let s = c.requires.sides.0 in
+    let t = c.requires.sides.1 in
+    let a = subst (λ (k : Stack). AreSides u k r s t) (sym c.left.view_is) (subst (λ (r : Stack). AreSides u c.args.left.now r s t) (sym c.right.view_is) c.requires.sides.2) in
+    lefts-fit u k r s t a c.pop.new.self.items c.in-Some-pop.parent c.in-Some-pop.ensures.items (few-variables c.unit.ensures c.resolved.ensures.resolved) c.in-Some.left_end c.in-Some-end.right_end c.in-Some.ensures c.in-Some-end.ensures
 
 pub join-joined-requires-clause-rights : goal.join-joined-requires-clause-rights
 join-joined-requires-clause-rights c =
