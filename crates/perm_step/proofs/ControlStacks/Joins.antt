@@ -148,16 +148,15 @@ module _ (u : UnitCode) (k right : Stack) (s t : Stem) (a : AreSides u k right s
 -- ---------- a join that got no room ----------
 -- the parent with other room
 room-parents : (spot : ℕ → Spot) (u : UnitCode) (b : Bodies) (bottom : ℕ) (p q : Working) (ps : List Working) → q ≡ record p { room = q.room } → AreParents u spot b bottom (p ∷ ps) → AreParents u spot b bottom (q ∷ ps)
-room-parents spot u b bottom p q ps same (outer, x, rest) =
-    (
-      outer,
-      subst (λ (q : Working). IsParent u spot b bottom outer q) (sym same) (let z = x.waits in let y = x.sound in record {
-        waits = record { step = z.step; there = z.there; first = z.first; second = z.second; place = z.place; par = z.par; sides = z.sides; written = z.written };
-        same = x.same;
-        sound = record { here = y.here; calls = y.calls; variables = y.variables; callers = y.callers; below = y.below; deep = y.deep };
-      }),
-      rest,
-    )
+room-parents spot u b bottom p q ps same (outer, x, rest) = (
+  outer,
+  subst (λ (q : Working). IsParent u spot b bottom outer q) (sym same) (let z = x.waits in let y = x.sound in record {
+    waits = record { step = z.step; there = z.there; first = z.first; second = z.second; place = z.place; par = z.par; sides = z.sides; written = z.written };
+    same = x.same;
+    sound = record { here = y.here; calls = y.calls; variables = y.variables; callers = y.callers; below = y.below; deep = y.deep };
+  }),
+  rest,
+)
 
 -- means what it meant
 pub kept-means : (u : UnitCode) (k : Stack) (s : Stem) (front : List Working) (p q : Working) → k.parents ≡ front ++ p ∷ [] → q ≡ record p { room = q.room } → Means u k s → Means u (record k { parents = front ++ q ∷ [] }) s

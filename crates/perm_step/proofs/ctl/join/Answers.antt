@@ -1,12 +1,12 @@
-use Rattle.std.proofs.Common.{◌≡◌, []}
-use Rattle.std.proofs.Common.{◌++◌, ◌∷◌, List, sym, subst}
+use Rattle.std.proofs.Common.{◌≡◌, [], ◌++◌, ◌∷◌, List, sym, ap, ◌∙◌, subst, arith}
+use Rattle.std.proofs.lemmas.List.{nil_from_length}
 use Rattle.perm_tree.specs.CodeOf.{code_of}
 use Rattle.perm_step.specs.declared.control.Leaf as leaves
 use Rattle.perm_step.specs.StemMoves.{AreSides, Rejoins}
 use Rattle.perm_step.specs.Stems.{Means, Stack}
 use Rattle.perm_step.specs.Working.{Working}
 use Rattle.perm_step.proofs.ControlStacks.Finals.{not-due}
-use Rattle.perm_step.proofs.ControlStacks.Joins.{few-here, few-variables, kept-means, lefts-fit, rejoins, rights-fit, turns-fit, waits-so}
+use Rattle.perm_step.proofs.ControlStacks.Joins.{few-here, few-variables, kept-means, lefts-fit, rejoins, rights-fit, some-parent, turns-fit, waits-so}
 use Rattle.perm_step.proofs.ctl.join.Goals as goal
 
 pub unreachable-requires : goal.unreachable-requires
@@ -24,6 +24,15 @@ unreachable-requires-in_default-end c =
     let t = c.requires.sides.1 in
     let a = c.requires.sides.2 in
     not-due u k t (subst (λ (k : Stack). Means u k t) (sym c.right.view_is) a.on_right) a.right_end a.right_over c.in_default-end.ensures
+
+pub unreachable-requires-in_default-pop : goal.unreachable-requires-in_default-pop
+unreachable-requires-in_default-pop c =
+    let k : Stack = record { bodies = c.left.inside.bodies.now; leaf = c.left.inside.leaf; parents = c.left.inside.parents.items; on_right = c.left.inside.on_right } in
+    let u = code_of c.args.checked.now in
+    let s = c.requires.sides.0 in
+    let a = c.requires.sides.2 in
+    let none : c.pop.new.self.items ≡ [] = nil_from_length c.pop.new.self.items (omega (arith, c.in_default-pop.ensures.cases)) in
+    some-parent u k s (subst (λ (k : Stack). Means u k s) (sym c.left.view_is) a.on_left) a.parent a.outer a.waits (c.in_default-pop.ensures.items ∙ ap (λ (ps : List Working). ps ++ []) none)
 
 pub join-joined-requires-clause-par : goal.join-joined-requires-clause-par
 join-joined-requires-clause-par c =
