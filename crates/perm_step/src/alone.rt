@@ -3,7 +3,6 @@
 ghost use Rattle.std.specs.Prelude.{◌≡◌, ◌+◌, ◌^◌, ◌<◌, ◌≤◌, ◌≢◌, [], length, None, Some, IfOk, IfErr, vec_len, vec_capacity};
 ghost use Rattle.perm_tree.specs.CodeOf.{code_of};
 ghost use Rattle.perm_meaning.specs.Outcome.{outcome};
-ghost use Rattle.perm_meaning.specs.Told.{told_end};
 ghost use Rattle.perm_step.specs.Opens.{opening_size, IsOpened, IsNotOpened};
 ghost use Rattle.perm_step.specs.ParMoves.{final_of, EndsAs};
 ghost use Rattle.perm_step.specs.Reports.{IsReport};
@@ -12,7 +11,8 @@ ghost use Rattle.perm_step.specs.Working.{Working};
 ghost use Rattle.perm_step.specs.Tells.{HasRoot, IsFull, Tells};
 
 use crate::ask::Ask;
-use crate::control::{Control, Failure, Leaf};
+use crate::control::{Control, Leaf};
+use crate::ends::told_end;
 use crate::heap::{Heap, Shortage};
 use crate::pars::{Final, Forked};
 use perm_core::laws;
@@ -222,19 +222,5 @@ fn full(alloc: Global, shortage: Shortage) -> Result<Outcome, NoMemory>
             words: List::new(alloc),
             root: 0,
         }),
-    }
-}
-
-/// How a run has ended whose root has ended so. A root ends by returning a word or by a failure.
-fn told_end(end: Final) -> End
-    requires { end ≢ Final.Fine }
-    ensures { (c : Working) → told_end (final_of c end) ≡ Some result }
-{
-    match end {
-        Final::Returned(word) => End::Done(word.cast_signed()),
-        Final::Failed(Failure::Trap(kind, span)) => End::Trap(kind, span),
-        Final::Failed(Failure::NoTurns) => End::OutOfTurns,
-        Final::Failed(Failure::NoRoom) => End::HeapFull,
-        Final::Fine => unreachable!(),
     }
 }

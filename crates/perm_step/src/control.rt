@@ -2,6 +2,7 @@
 
 ghost use Rattle.std.specs.Prelude.{◌≡◌, ℕ, ◌+◌, ◌<◌, ◌≤◌, drop, length, slice_get, slice_set, IfOk, IfErr, IsTrue, OnOk, Some};
 ghost use Rattle.perm_tree.specs.BodyTerms.{IsArgumentIn, IsExpressionIn};
+ghost use Rattle.perm_meaning.specs.Words.{reference_word};
 ghost use Rattle.perm_step.specs.Evaluation.{HasRoomFor};
 ghost use Rattle.perm_step.specs.Given.{ArgumentGives, ArgumentTraps, ExpressionGives, ExpressionTraps, VariableGives};
 ghost use Rattle.perm_step.specs.Opens.{IsEntered};
@@ -186,6 +187,16 @@ impl Control {
         let at = self.base as usize + x as usize;
         set_word(&mut self.vars, at, word);
     }
+}
+
+/// The reference to the object at a base, with the length that it holds.
+#[inline(always)]
+pub fn reference_to(base: u64, length: usize) -> u64
+    requires base { base ≤ 4194304 }
+    requires length { length ≤ 4194304 }
+    ensures { result ≡ reference_word base length }
+{
+    base + 1 + length as u64 * BASES
 }
 
 /// Sets the word at a place, where there is one.

@@ -5,7 +5,7 @@ ghost use Rattle.perm_meaning.specs.Objects.{size};
 ghost use Rattle.perm_step.specs.Heaps.{Answers, IsFitting, IsWritten, Refuses};
 
 use crate::ask::Ask;
-use crate::control::{BASES, set_word};
+use crate::control::{reference_to, set_word};
 use crate::values::word_of;
 use perm_tree::errors::NoMemory;
 use std::alloc::{AllocError, Global};
@@ -88,7 +88,7 @@ impl Heap {
             }
             Ask::Make(count, length) => {
                 let base = self.give(count)?;
-                Ok(base + 1 + length as u64 * BASES)
+                Ok(reference_to(base, length))
             }
         }
     }

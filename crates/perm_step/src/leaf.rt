@@ -35,6 +35,15 @@ impl Leaf {
         self.ending = Some(Ending::Failed(Failure::Trap(kind, span)));
     }
 
+    /// Ends the branch by the refusal of what its next step asks.
+    pub fn refuse(&mut self)
+        requires due { 0 < self.old.control.turns }
+        ensures { self.new ≡ record { control = spent self.old.control; ending = Some (endings.Failed failures.NoRoom) } }
+    {
+        self.control.turns -= 1;
+        self.ending = Some(Ending::Failed(Failure::NoRoom));
+    }
+
     /// Takes the turn of the next step, given the word that the heap answers.
     #[inline(always)]
     pub fn proceed(&mut self, bodies: &Bodies, step: &Step, word: u64)

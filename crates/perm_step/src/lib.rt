@@ -6,6 +6,7 @@ mod ask;
 mod calls;
 mod control;
 mod ctl;
+mod ends;
 mod heap;
 mod leaf;
 mod pars;
@@ -14,4 +15,5 @@ mod tell;
 mod values;
 
 pub use alone::run_alone;
-pub use ctl::{Ctl, Op, fork, next, room, start};
+pub use ctl::{Answered, Ctl, Op, finished, fork, join, next, resume, room, start};
+pub use ends::Finished;

@@ -25,7 +25,7 @@ use Rattle.perm_step.proofs.StepClaims.{IsForked}
 use Rattle.perm_step.proofs.StepEvents.{step-claims}
 
 -- a branch whose next event asks has not ended
-asking-due : (u : UnitCode) (x : Branch) (at : Stage ℕ) (o : Ask) → leaf_op (worded Copies u) x at ≡ Some o → over at ≡ None
+pub asking-due : (u : UnitCode) (x : Branch) (at : Stage ℕ) (o : Ask) → leaf_op (worded Copies u) x at ≡ Some o → over at ≡ None
 asking-due u x (Over f) o h = absurd (let none : ⊥ = cc h in none)
 asking-due u x (Due t) o h = refl
 

@@ -163,7 +163,7 @@ module _ (u : UnitCode) (k : Stack) (s : Stem) (m : Means u k s) where
           record { after = leaf.0; asks = next; makes = at-leaf (λ x. NextMakes u x (Some 0) (Leaf leaf.0)) leaf.1 }
 
       -- a step that starts a par
-      fork-next : Asks b (locals c) c.depth st.action asks.Fork → NextAsks u s.leaf Tick → StartsPar u s
+      pub fork-next : Asks b (locals c) c.depth st.action asks.Fork → NextAsks u s.leaf Tick → StartsPar u s
       fork-next asked next =
           let par = asks-par b (locals c) c.depth st.action asks.Fork asked refl in
           let side : ℕ → ℕ → Working = λ at turns. record { at = at; base = 0; calls = []; vars = locals c; printed = []; depth = suc c.depth; turns = turns; room = c.room } in

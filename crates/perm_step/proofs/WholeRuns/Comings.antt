@@ -56,12 +56,17 @@ runs-on b c (Some (endings.Returned w)) h = absurd (let no : ⊥ = cc h in no)
 runs-on b c (Some (endings.Failed x)) h = absurd (let no : ⊥ = cc h in no)
 
 -- the turns of a leaf are those of its branch
-leaf-turns : (spot : ℕ → Spot) (l : leaves.Leaf) → (leaf_branch spot l).turns ≡ l.control.turns
+pub leaf-turns : (spot : ℕ → Spot) (l : leaves.Leaf) → (leaf_branch spot l).turns ≡ l.control.turns
 leaf-turns spot l = by l.ending
   where
     by : (e : Option Ending) → (ended_as e (branch_of spot l.control)).turns ≡ l.control.turns
     by None = refl
     by (Some e) = refl
+
+-- the leaf that a step leads to stands at a step
+pub stays-sound : (u : UnitCode) (b : Bodies) (w : AreBodiesOf u b) (bottom : ℕ) (c : Working) (s : Step) (word : ℕ) (new : leaves.Leaf) → c.at < length b.steps → Proceeds b s word (runs_on u b w c) new → (new.ending ≡ None → IsSound u w.spot b bottom new.control) → IsSoundLeaf u w.spot b bottom new
+stays-sound u b w bottom c s word new here (inl (goes, moves)) sound = record { here = (sound goes).here; sound = sound }
+stays-sound u b w bottom c s word new here (inr (e, stops, is)) sound = record { here = subst (λ (x : leaves.Leaf). x.control.at < length b.steps) (sym is) here; sound = sound }
 
 -- ---------- runs ----------
 module _ (o : Opening) (b : Bodies) (r : Run) (k : IsComing o b r) where
@@ -152,10 +157,6 @@ module _ (o : Opening) (b : Bodies) (r : Run) (k : IsComing o b r) (claims : Ste
           → r'.leaf ≡ new → r'.waiting.items ≡ r.waiting.items → r'.heap ≡ h → IsComing o b r'
       proceed-comes q word h new r' asks leads answers proceeds leaf waiting heap = by (claims.asks k.bottom c1 s q is-due asks) (claims.makes k.bottom c1 s q word new is-due leads asks proceeds)
         where
-          stays : Proceeds b s word (runs_on u b k.bodies c1) new → (new.ending ≡ None → IsSound u spot b k.bottom new.control) → IsSoundLeaf u spot b k.bottom new
-          stays (inl (goes, moves)) sound = record { here = (sound goes).here; sound = sound }
-          stays (inr (e, stops, is)) sound = record { here = subst (λ (x : leaves.Leaf). x.control.at < length b.steps) (sym is) stands; sound = sound }
-
           by : (a : Ask) × NextAsks u (branch_of spot c1) a × IsAskFor q a → IsMade u b k.bodies k.bottom c1 word new → IsComing o b r'
           by (a, next, ask) made =
               let inside = run-asks-in-heap u o.limit o.input o.turns o.first o.checked o.opens ks (branch_of spot c1) (cells_of r.heap.words) a reached-in next in
@@ -163,7 +164,7 @@ module _ (o : Opening) (b : Bodies) (r : Run) (k : IsComing o b r) (claims : Ste
               comes o b r k r' new r.waiting.items h leaf waiting heap
               (subst (Runs ks (leaf_branch spot new)) f.left
               (run-goes-on u o.limit o.input o.turns o.first ks (branch_of spot c1) (leaf_branch spot new) (cells_of r.heap.words) a word reached-in next f.found made.makes))
-              k.bottom (stays proceeds made.sound) k.kept (f.same ∙ k.same)
+              k.bottom (stays-sound u b k.bodies k.bottom c1 s word new stands proceeds made.sound) k.kept (f.same ∙ k.same)
 
       -- an object that the heap refuses
       pub refused-fills : (q : interpreter.Ask) (h : Heaped) → Asks b (locals c1) c1.depth s.action q → Refuses q r.heap h shortages.HeapFull → Fills o
