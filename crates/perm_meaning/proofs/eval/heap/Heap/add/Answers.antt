@@ -1,4 +1,4 @@
-use Rattle.std.proofs.Common.{◌≡◌, ◌∙◌, ◌+◌, ◌++◌, ◌∷◌, [], length, ap, sym, subst}
+use Rattle.std.proofs.Common.{◌≡◌, ◌∙◌, ◌+◌, ◌++◌, ◌∷◌, [], length, ap, sym, subst, arith}
 use Rattle.std.specs.Map.{values_of}
 use Rattle.perm_meaning.specs.Objects.{size}
 use Rattle.perm_meaning.specs.Stored.{CountFrom, Stored}
@@ -14,8 +14,9 @@ pub returns : goal.returns
 returns c =
     let put = put-next c.self.inside.objects c.len-number.result c.args.values c.self.invariant c.len-number.ensures.len in
     let objects = ap values_of (c.in_ok-insert.ensures.entries ∙ put) ∙ add-values c.self.inside.objects.entries c.len-number.result c.args.values in
-    let words = c.max-words.ensures in
-    let size_is = c.len.ensures.value in
+    let count = c.len.ensures.value in
+    let max_is = c.max-words.ensures in
+    let words : c.max-words.result ≡ size (length c.args.values) = omega (arith, count, max_is) in
     (c.len-number.ensures.len ∙ sym (length-values c.self.inside.objects.entries) ∙ ap (λ (s : Stored). length s.objects) c.self.view_is,
-     (λ i. record { objects = objects i; given = c.self.inside.given + ?; limit = c.self.inside.limit })
+     (λ i. record { objects = objects i; given = c.self.inside.given + words i; limit = c.self.inside.limit })
      ∙ ap (λ (s : Stored). record s { objects = s.objects ++ c.args.values ∷ []; given = s.given + size (length c.args.values) }) c.self.view_is)
