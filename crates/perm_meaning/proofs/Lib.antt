@@ -18,6 +18,7 @@ pub mod Measure
 pub mod MovesAndCopies
 pub mod Moving
 pub mod NewNames
+pub mod NumberedMaps
 pub mod OnWords
 pub mod Parts
 pub mod Routines

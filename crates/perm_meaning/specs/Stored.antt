@@ -1,5 +1,5 @@
 -- The heap of objects with numbers, and what it holds where each number has its name.
-use Rattle.std.specs.Prelude.{pos, false, ◌≡◌, ℕ, ◌+◌, ◌≤◌, ◌<◌, ◌⊎◌, List, [], ◌∷◌, ◌++◌, length, map, slice_get, slice_set, Option, Some, None}
+use Rattle.std.specs.Prelude.{pos, false, ◌≡◌, ℕ, suc, ◌+◌, ◌≤◌, ◌<◌, ◌⊎◌, List, [], ◌∷◌, ◌++◌, length, map, slice_get, slice_set, Option, Some, None}
 use Rattle.perm_tree.specs.declared.ast.Shape.{Shape}
 use Rattle.perm_tree.specs.declared.ast.Shape.TheVariants.{Class, Array}
 use Rattle.perm_meaning.specs.declared.eval.asks.Ask.{Ask}
@@ -20,6 +20,11 @@ pub record Stored : Type 0 where
   pub objects : List (List Value)
   pub given : ℕ
   pub limit : ℕ
+
+-- the keys of entries count from a number on
+abbrev pub CountFrom : ℕ → List (ℕ × List Value) → Type 0
+CountFrom n [] = Unit {0}
+CountFrom n (e ∷ es) = (e.0 ≡ n) × CountFrom (suc n) es
 
 -- the values of an object that may be there
 abbrev pub value_of_object : Option (List Value) → ℕ → Option Value

@@ -6,6 +6,7 @@ ghost use Rattle.perm_meaning.specs.Objects.{size};
 ghost use Rattle.perm_meaning.specs.Stored.{put_at, value_at, zero_value};
 
 use super::values::Value;
+use indexmap::IndexMap;
 use perm_tree::ast::{FieldDecl, Ty};
 use perm_tree::errors::NoMemory;
 use perm_tree::list::List;
@@ -15,17 +16,20 @@ use std::marker::Model;
 /// The objects that were made, how many words were given for them, and how many words there are.
 #[derive(Debug, Drop)]
 pub struct Heap {
-    objects: Vec<List<Value>>,
+    objects: IndexMap<usize, List<Value>>,
     given: u64,
     limit: u64,
 }
 
 impl Model for Heap {
-    ghost use Rattle.perm_meaning.specs.Stored.{Stored};
+    ghost use Rattle.indexmap.specs.IndexMap.{values};
+    ghost use Rattle.perm_meaning.specs.Stored.{CountFrom, Stored};
 
     ghost Value = { Stored };
 
-    ghost view = { λ h. record { objects = h.objects.items; given = h.given; limit = h.limit } };
+    ghost view = { λ h. record { objects = values h.objects; given = h.given; limit = h.limit } };
+
+    ghost invariant = { λ h. CountFrom 0 h.objects.entries };
 }
 
 impl Heap {
@@ -34,7 +38,7 @@ impl Heap {
         ensures { result ≡ record { objects = []; given = 0; limit = limit } }
     {
         Heap {
-            objects: Vec::new(alloc),
+            objects: IndexMap::new(alloc),
             given: 0,
             limit,
         }
@@ -51,7 +55,7 @@ impl Heap {
     pub fn load(&self, object: usize, f: usize) -> Option<Value>
         ensures { result ≡ value_at self.now.objects object f }
     {
-        match self.objects.get(object) {
+        match self.objects.get(&object) {
             Some(values) => values.as_slice().get(f).copied(),
             None => None,
         }
@@ -61,8 +65,8 @@ impl Heap {
     pub fn put(&mut self, object: usize, f: usize, value: Value)
         ensures { self.new ≡ record self.old { objects = put_at self.old.objects object f value } }
     {
-        if object < self.objects.len() {
-            put_into(&mut self.objects[object], f, value);
+        if let Some(values) = self.objects.get_mut(&object) {
+            put_into(values, f, value);
         }
     }
 }
@@ -83,7 +87,7 @@ impl Heap {
     {
         let number = self.objects.len();
         let words = values.len().max(1) as u64;
-        self.objects.push(values)?;
+        self.objects.insert(number, values)?;
         let _limit = self.limit;
         self.given = self.given + words;
         Ok(number)
