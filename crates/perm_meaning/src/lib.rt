@@ -1,8 +1,10 @@
 //! What a program means: what a run comes to.
 #![tactic(auto)]
 
-pub mod eval;
+mod eval;
 pub mod laws;
+
+pub use eval::plain::{Plain, eval_plain};
 
 use perm_tree::ast::Span;
 use perm_tree::errors::TrapKind;
