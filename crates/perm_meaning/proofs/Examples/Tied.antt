@@ -12,14 +12,14 @@ use Rattle.perm_meaning.specs.Meaning.{fail, Full}
 use Rattle.perm_meaning.specs.Machine.{NoTurns}
 use Rattle.perm_meaning.specs.Names.{root_mark}
 use Rattle.perm_meaning.specs.Outcome.{opening_heap}
-use Rattle.perm_meaning.specs.Simple.{Asks}
-use Rattle.perm_meaning.specs.Stepping.{meant, At, Comes}
-use Rattle.perm_meaning.specs.Stored.{Stored}
-use Rattle.perm_meaning.specs.Tied.{opening_names, opening_stored, AllBelow, IsTied, SlotBelow}
+use Rattle.perm_meaning.specs.Evaluator.SimpleStatements.{Asks}
+use Rattle.perm_meaning.specs.Evaluator.SimpleSteps.{meant, At, Comes}
+use Rattle.perm_meaning.specs.Evaluator.NumberedHeap.{Stored}
+use Rattle.perm_meaning.specs.Evaluator.Ties.{opening_names, opening_stored, AllBelow, IsTied, SlotBelow}
 use Rattle.perm_meaning.proofs.Leads.{none-some, some-inj}
-use Rattle.perm_meaning.proofs.Made.{array-start}
-use Rattle.perm_meaning.proofs.Tied.Opening.{opening-tied, opening-unborn}
-use Rattle.perm_meaning.proofs.Tied.Stepping.{fills, goes}
+use Rattle.perm_meaning.proofs.Evaluator.NewObjects.{array-start}
+use Rattle.perm_meaning.proofs.Evaluator.Ties.Opening.{opening-tied, opening-unborn}
+use Rattle.perm_meaning.proofs.Evaluator.Ties.Stepping.{fills, goes}
 use Rattle.std.proofs.Common.{subst, arith, inl, inr}
 
 -- a unit whose class `Main` has no field

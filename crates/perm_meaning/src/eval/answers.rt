@@ -4,7 +4,7 @@ ghost use Rattle.std.specs.Prelude.{◌≡◌, ◌≤◌, length, IfOk};
 ghost use Rattle.perm_tree.specs.CodeOf.{code_of};
 ghost use Rattle.perm_tree.specs.declared.ast.Shape.TheVariants.{Class, Array};
 ghost use Rattle.perm_meaning.specs.Objects.{field_types};
-ghost use Rattle.perm_meaning.specs.Stored.{found_there, found_value, Answers, MakesOne, StartsAs};
+ghost use Rattle.perm_meaning.specs.Evaluator.NumberedHeap.{found_there, found_value, Answers, MakesOne, StartsAs};
 
 use super::asks::Ask;
 use super::heap::{Heap, first_values, zeros};

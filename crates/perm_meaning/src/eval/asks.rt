@@ -2,9 +2,9 @@
 
 ghost use Rattle.std.specs.Prelude.{slice_get, ◌≡◌, Some};
 ghost use Rattle.perm_tree.specs.Code.{UnitCode};
-ghost use Rattle.perm_meaning.specs.Asking.{asked_by, count_of, assigned, index_in, length_in, loaded, loaded_item, made_of, measured, new_array, printed_by, stored_by, stored_item, taken};
+ghost use Rattle.perm_meaning.specs.Evaluator.Asks.{asked_by, count_of, assigned, index_in, length_in, loaded, loaded_item, made_of, measured, new_array, printed_by, stored_by, stored_item, taken};
 ghost use Rattle.perm_meaning.specs.NamedHeap as heaps;
-ghost use Rattle.perm_meaning.specs.Numbered.{given_by, Names};
+ghost use Rattle.perm_meaning.specs.Evaluator.NumberedValues.{given_by, Names};
 
 use super::values::{Given, Value};
 use perm_tree::errors::TrapKind;

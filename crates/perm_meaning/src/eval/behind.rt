@@ -2,8 +2,8 @@
 
 ghost use Rattle.std.specs.Prelude.{◌≡◌, IfOk};
 ghost use Rattle.perm_tree.specs.UnitTables.{Tables};
-ghost use Rattle.perm_meaning.specs.Run.{below_frame, IsNext, IsSmall};
-ghost use Rattle.perm_meaning.specs.State.{IsEnd};
+ghost use Rattle.perm_meaning.specs.Evaluator.Runs.{below_frame, IsNext, IsSmall};
+ghost use Rattle.perm_meaning.specs.Evaluator.States.{IsEnd};
 
 use super::frames::{Caller, Final, Frame, Parent, Spot};
 use super::join::joined;

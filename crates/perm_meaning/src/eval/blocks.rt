@@ -5,12 +5,12 @@ ghost use Rattle.perm_tree.specs.declared.ast.Block.{Block};
 ghost use Rattle.perm_tree.specs.declared.ast.Ident.{Ident};
 ghost use Rattle.perm_tree.specs.declared.ast.Ty.{Ty};
 ghost use Rattle.perm_tree.specs.InBody.{setting_at};
-ghost use Rattle.perm_meaning.specs.Ends.{give_fate, return_fate};
-ghost use Rattle.perm_meaning.specs.Invoking.{call_in};
-ghost use Rattle.perm_meaning.specs.Parts.{stmts_in};
-ghost use Rattle.perm_meaning.specs.Run.{unspent, ComesNext, IsNext, IsSmall};
-ghost use Rattle.perm_meaning.specs.Simple.{simple_of};
-ghost use Rattle.perm_meaning.specs.State.{test_fate};
+ghost use Rattle.perm_meaning.specs.Evaluator.PartEnds.{give_fate, return_fate};
+ghost use Rattle.perm_meaning.specs.Evaluator.CallStatements.{call_in};
+ghost use Rattle.perm_meaning.specs.Evaluator.Parts.{stmts_in};
+ghost use Rattle.perm_meaning.specs.Evaluator.Runs.{unspent, ComesNext, IsNext, IsSmall};
+ghost use Rattle.perm_meaning.specs.Evaluator.SimpleStatements.{simple_of};
+ghost use Rattle.perm_meaning.specs.Evaluator.States.{test_fate};
 
 use super::calls::MOST_DEPTH;
 use super::control::{Tested, test_of};

@@ -1,7 +1,7 @@
 //! Going into a method, and coming back to its caller.
 
 ghost use Rattle.std.specs.Prelude.{◌≡◌, ◌-◌};
-ghost use Rattle.perm_meaning.specs.State.{Takes};
+ghost use Rattle.perm_meaning.specs.Evaluator.States.{Takes};
 
 use super::calls::Call;
 use super::frames::{Caller, Spot};

@@ -4,9 +4,9 @@ ghost use Rattle.std.specs.Prelude.{◌≡◌, ◌-◌, ◌+◌, ◌++◌, ◌�
 ghost use Rattle.perm_tree.specs.Code.{Tie};
 ghost use Rattle.perm_tree.specs.CodeOf.{code_of};
 ghost use Rattle.perm_tree.specs.InBody.{vars_at};
-ghost use Rattle.perm_meaning.specs.Calling.{begun, begun_on, IsCallOf};
+ghost use Rattle.perm_meaning.specs.Evaluator.BegunCalls.{begun, begun_on, IsCallOf};
 ghost use Rattle.perm_meaning.specs.NamedHeap as heaps;
-ghost use Rattle.perm_meaning.specs.Numbered.{all_by, given_by, value_by, Names};
+ghost use Rattle.perm_meaning.specs.Evaluator.NumberedValues.{all_by, given_by, value_by, Names};
 
 use super::own::infos;
 use super::parts::method;

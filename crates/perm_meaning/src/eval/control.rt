@@ -1,9 +1,9 @@
 //! Control: where a run stands in the code, and all that waits.
 
 ghost use Rattle.std.specs.Prelude.{◌≡◌, ◌∷◌, ◌<◌, ◌^◌, IfOk, IfSome, option_copied, slice_get};
-ghost use Rattle.perm_meaning.specs.Control.{behind, entered, if_control, passed, recover_control, while_control, TestsAs};
-ghost use Rattle.perm_meaning.specs.Numbered.{given_by, Names};
-ghost use Rattle.perm_meaning.specs.Parts.{stmts_in};
+ghost use Rattle.perm_meaning.specs.Evaluator.Control.{behind, entered, if_control, passed, recover_control, while_control, TestsAs};
+ghost use Rattle.perm_meaning.specs.Evaluator.NumberedValues.{given_by, Names};
+ghost use Rattle.perm_meaning.specs.Evaluator.Parts.{stmts_in};
 
 use super::frames::{Frame, Frames, Spot};
 use super::parts::{Part, stmts_of};

@@ -7,10 +7,10 @@ ghost use Rattle.perm_tree.specs.CodeNames.{argument, var_at};
 ghost use Rattle.perm_tree.specs.CodeOf.{code_of};
 ghost use Rattle.perm_tree.specs.InBody.{method_at, setting_at};
 ghost use Rattle.perm_tree.specs.Scopes.{declared_at, declared_by};
-ghost use Rattle.perm_meaning.specs.Ends.{EndsAs, LosesGiven};
+ghost use Rattle.perm_meaning.specs.Evaluator.PartEnds.{EndsAs, LosesGiven};
 ghost use Rattle.perm_meaning.specs.Expressions.{assign, clear_all, tagged, value_of};
-ghost use Rattle.perm_meaning.specs.Numbered.{all_by, given_by, held_by, Names};
-ghost use Rattle.perm_meaning.specs.Parts.{end_in, first_end, first_end_if, give_of, own_in, return_if};
+ghost use Rattle.perm_meaning.specs.Evaluator.NumberedValues.{all_by, given_by, held_by, Names};
+ghost use Rattle.perm_meaning.specs.Evaluator.Parts.{end_in, first_end, first_end_if, give_of, own_in, return_if};
 
 use super::own::Own;
 use super::parts::{Part, method, stmts_of};

@@ -4,8 +4,8 @@ ghost use Rattle.std.specs.Prelude.{◌≡◌, ◌-◌, ◌≤◌, ℕ, List, ge
 ghost use Rattle.perm_tree.specs.Code.{Term, NullLit};
 ghost use Rattle.perm_tree.specs.CodeNames.{term_of, terms_of};
 ghost use Rattle.perm_meaning.specs.Expressions.{eval, look_up, tagged};
-ghost use Rattle.perm_meaning.specs.Evaluation.{OperandsAre};
-ghost use Rattle.perm_meaning.specs.Numbered.{all_by, given_by, Names};
+ghost use Rattle.perm_meaning.specs.Evaluator.Operands.{OperandsAre};
+ghost use Rattle.perm_meaning.specs.Evaluator.NumberedValues.{all_by, given_by, Names};
 
 use super::names;
 use super::values::{Given, Value, binary, unary};

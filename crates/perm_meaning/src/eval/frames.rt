@@ -1,7 +1,7 @@
 //! What waits for the end of a block, a method or a side.
 
 ghost use Rattle.std.specs.Prelude.{◌≡◌, [], ◌∷◌, reverse, IfOk, None, Some};
-ghost use Rattle.perm_meaning.specs.Popped.{IsPopped};
+ghost use Rattle.perm_meaning.specs.Evaluator.Popped.{IsPopped};
 
 use super::own::Own;
 use super::parts::Part;

@@ -3,7 +3,7 @@
 ghost use Rattle.std.specs.Prelude.{◌≡◌, ◌+◌, ◌≤◌, ◌++◌, [], ◌∷◌, pos, length, map, nat_le, replicate, slice_set, IfOk};
 ghost use Rattle.perm_tree.specs.CodeOf.{code_of};
 ghost use Rattle.perm_meaning.specs.Objects.{size};
-ghost use Rattle.perm_meaning.specs.Stored.{put_at, value_at, zero_value};
+ghost use Rattle.perm_meaning.specs.Evaluator.NumberedHeap.{put_at, value_at, zero_value};
 
 use super::values::Value;
 use indexmap::IndexMap;
@@ -23,7 +23,7 @@ pub struct Heap {
 
 impl Model for Heap {
     ghost use Rattle.indexmap.specs.IndexMap.{values};
-    ghost use Rattle.perm_meaning.specs.Stored.{CountFrom, Stored};
+    ghost use Rattle.perm_meaning.specs.Evaluator.NumberedHeap.{CountFrom, Stored};
 
     ghost Value = { Stored };
 

@@ -6,10 +6,10 @@ ghost use Rattle.perm_tree.specs.CodeNames.{argument, call, ty_at, var_at};
 ghost use Rattle.perm_tree.specs.CodeOf.{code_of};
 ghost use Rattle.perm_tree.specs.InBody.{setting_at};
 ghost use Rattle.perm_tree.specs.Lookup.{method_place};
-ghost use Rattle.perm_meaning.specs.Calling.{begun_if, IsCallOf};
-ghost use Rattle.perm_meaning.specs.Invoking.{call_in, Invokes, MayInvoke};
+ghost use Rattle.perm_meaning.specs.Evaluator.BegunCalls.{begun_if, IsCallOf};
+ghost use Rattle.perm_meaning.specs.Evaluator.CallStatements.{call_in, Invokes, MayInvoke};
 ghost use Rattle.perm_meaning.specs.NamedHeap as heaps;
-ghost use Rattle.perm_meaning.specs.Numbered.{given_by, Names};
+ghost use Rattle.perm_meaning.specs.Evaluator.NumberedValues.{given_by, Names};
 
 use super::calls::{Callee, begin_on};
 use super::names;

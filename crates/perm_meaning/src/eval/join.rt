@@ -2,11 +2,11 @@
 
 ghost use Rattle.std.specs.Prelude.{◌≡◌, ◌+◌, ◌++◌, ◌<◌, ◌^◌, ℤ, List, cond, IfOk};
 ghost use Rattle.perm_meaning.specs.Custody.{from_either, merged, writes_l, writes_r};
-ghost use Rattle.perm_meaning.specs.Frames.{final_by, turns_left};
-ghost use Rattle.perm_meaning.specs.Joined.{end_of_par, IsJoined};
+ghost use Rattle.perm_meaning.specs.Evaluator.Frames.{final_by, turns_left};
+ghost use Rattle.perm_meaning.specs.Evaluator.Joins.{end_of_par, IsJoined};
 ghost use Rattle.perm_meaning.specs.Machine.{Fine};
-ghost use Rattle.perm_meaning.specs.Numbered.{all_by, Names};
-ghost use Rattle.perm_meaning.specs.Writes.{par_at, part_writes};
+ghost use Rattle.perm_meaning.specs.Evaluator.NumberedValues.{all_by, Names};
+ghost use Rattle.perm_meaning.specs.Evaluator.Writes.{par_at, part_writes};
 
 use super::frames::Final;
 use super::own::Own;

@@ -4,8 +4,8 @@ ghost use Rattle.std.specs.Prelude.{◌≡◌, slice_set, IfOk, None};
 ghost use Rattle.perm_tree.specs.CodeNames.{argument, term_at, var_at};
 ghost use Rattle.perm_tree.specs.InBody.{setting_at, vars_at};
 ghost use Rattle.perm_meaning.specs.Expressions.{clear, eval, look_up, tagged, value_of};
-ghost use Rattle.perm_meaning.specs.Numbered.{all_by, given_by, Names};
-ghost use Rattle.perm_meaning.specs.Simple.{after_argument};
+ghost use Rattle.perm_meaning.specs.Evaluator.NumberedValues.{all_by, given_by, Names};
+ghost use Rattle.perm_meaning.specs.Evaluator.SimpleStatements.{after_argument};
 
 use super::expressions::{evaluate, held};
 use super::names;

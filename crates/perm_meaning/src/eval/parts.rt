@@ -3,7 +3,7 @@
 ghost use Rattle.std.specs.Prelude.{◌≡◌, option_copied};
 ghost use Rattle.perm_tree.specs.InBody.{method_at};
 ghost use Rattle.perm_tree.specs.Scopes.{else_stmts};
-ghost use Rattle.perm_meaning.specs.Parts.{first_stmts, recover_stmts, second_stmts, stmts_in};
+ghost use Rattle.perm_meaning.specs.Evaluator.Parts.{first_stmts, recover_stmts, second_stmts, stmts_in};
 
 use super::names::method_of;
 use perm_tree::ast::{Block, Method, Rhs, StmtKind};

@@ -5,7 +5,7 @@ ghost use Rattle.perm_tree.specs.UnitTables.{Tables};
 ghost use Rattle.perm_meaning.specs.Meaning.{Result};
 ghost use Rattle.perm_meaning.specs.Outcome.{reported_result};
 ghost use Rattle.perm_meaning.specs.Plain.{IsPlain, Tells, TellsFull};
-ghost use Rattle.perm_meaning.specs.Run.{HasEnded, Means};
+ghost use Rattle.perm_meaning.specs.Evaluator.Runs.{HasEnded, Means};
 
 use super::frames::Failure;
 use super::parts::method;

@@ -1,8 +1,8 @@
 //! A run, from one statement to the next, to its end.
 
 ghost use Rattle.std.specs.Prelude.{◌≡◌, ◌<◌, ◌^◌, Some, slice_get, IfOk};
-ghost use Rattle.perm_meaning.specs.Parts.{stmts_in};
-ghost use Rattle.perm_meaning.specs.Run.{ComesNext, IsLast, IsNext, IsSmall, MayGoOn};
+ghost use Rattle.perm_meaning.specs.Evaluator.Parts.{stmts_in};
+ghost use Rattle.perm_meaning.specs.Evaluator.Runs.{ComesNext, IsLast, IsNext, IsSmall, MayGoOn};
 
 use super::frames::Failure;
 use super::state::{Fate, State};

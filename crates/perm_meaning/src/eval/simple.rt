@@ -8,8 +8,8 @@ ghost use Rattle.perm_tree.specs.InBody.{setting_at};
 ghost use Rattle.perm_tree.specs.Lookup.{class_place, is_array};
 ghost use Rattle.perm_tree.specs.Spelling.{is_word, length_word};
 ghost use Rattle.perm_meaning.specs.declared.eval.own.Own as own;
-ghost use Rattle.perm_meaning.specs.Asking.{count_of};
-ghost use Rattle.perm_meaning.specs.Simple.{assignment_to, simple_of, Asks, MayAsk};
+ghost use Rattle.perm_meaning.specs.Evaluator.Asks.{count_of};
+ghost use Rattle.perm_meaning.specs.Evaluator.SimpleStatements.{assignment_to, simple_of, Asks, MayAsk};
 
 use super::asks::{Ask, Asked, Told};
 use super::own::{Own, infos};

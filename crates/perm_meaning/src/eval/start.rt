@@ -2,7 +2,7 @@
 
 ghost use Rattle.std.specs.Prelude.{◌≡◌, ◌≤◌, length, IfOk};
 ghost use Rattle.perm_tree.specs.Lookup.{main_place, run_place};
-ghost use Rattle.perm_meaning.specs.Opening.{opening_control, opening_part, MayBegin, MayHaveBoth};
+ghost use Rattle.perm_meaning.specs.Evaluator.Opening.{opening_control, opening_part, MayBegin, MayHaveBoth};
 
 use super::answers::values_of;
 use super::calls::first_vars;

@@ -1,7 +1,7 @@
 //! The state of a run, and how parts of it end.
 
 ghost use Rattle.std.specs.Prelude.{◌≡◌, ◌<◌, ◌^◌, IfOk};
-ghost use Rattle.perm_meaning.specs.State.{final_of, joined_at, joined_fate, right_at, split_at, BeginsRight};
+ghost use Rattle.perm_meaning.specs.Evaluator.States.{final_of, joined_at, joined_fate, right_at, split_at, BeginsRight};
 
 use super::control::{Control, behind};
 use super::frames::{Failure, Final, Frame, Parent};

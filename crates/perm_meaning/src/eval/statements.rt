@@ -2,10 +2,10 @@
 
 ghost use Rattle.std.specs.Prelude.{◌≡◌, ◌<◌, ◌^◌, IfOk};
 ghost use Rattle.perm_tree.specs.InBody.{setting_at};
-ghost use Rattle.perm_meaning.specs.Fates.{callee_fate, callee_state, step_fate, step_state, trapped_state};
-ghost use Rattle.perm_meaning.specs.Invoking.{call_in};
-ghost use Rattle.perm_meaning.specs.Run.{unspent, ComesNext, IsSmall, MayTurn};
-ghost use Rattle.perm_meaning.specs.Simple.{simple_of};
+ghost use Rattle.perm_meaning.specs.Evaluator.Fates.{callee_fate, callee_state, step_fate, step_state, trapped_state};
+ghost use Rattle.perm_meaning.specs.Evaluator.CallStatements.{call_in};
+ghost use Rattle.perm_meaning.specs.Evaluator.Runs.{unspent, ComesNext, IsSmall, MayTurn};
+ghost use Rattle.perm_meaning.specs.Evaluator.SimpleStatements.{simple_of};
 
 use super::calls::Callee;
 use super::control::behind;

@@ -5,8 +5,8 @@ ghost use Rattle.perm_tree.specs.Code.{Instruction};
 ghost use Rattle.perm_tree.specs.CodeOf.{code_of};
 ghost use Rattle.perm_tree.specs.InBody.{setting_at};
 ghost use Rattle.perm_meaning.specs.declared.eval.own.Own as own;
-ghost use Rattle.perm_meaning.specs.Simple.{simple_of, Asks};
-ghost use Rattle.perm_meaning.specs.Stepping.{IsStep, MayStep};
+ghost use Rattle.perm_meaning.specs.Evaluator.SimpleStatements.{simple_of, Asks};
+ghost use Rattle.perm_meaning.specs.Evaluator.SimpleSteps.{IsStep, MayStep};
 
 use super::answers::Answer;
 use super::asks::Asked;

@@ -3,14 +3,14 @@
 ghost use Rattle.std.specs.Prelude.{◌≡◌, [], List, map, IfOk};
 ghost use Rattle.perm_tree.specs.CodeNames.{argument};
 ghost use Rattle.perm_tree.specs.InBody.{setting_at};
-ghost use Rattle.perm_meaning.specs.Asking.{told_by, Way};
+ghost use Rattle.perm_meaning.specs.Evaluator.Asks.{told_by, Way};
 ghost use Rattle.perm_meaning.specs.Effects.{on_arguments};
 ghost use Rattle.perm_meaning.specs.Expressions.{tagged};
 ghost use Rattle.perm_meaning.specs.NamedHeap.{Held};
 ghost use Rattle.perm_meaning.specs.Names.{Mark};
-ghost use Rattle.perm_meaning.specs.Numbered.{all_by, held_by, Names};
-ghost use Rattle.perm_meaning.specs.Simple.{own_by};
-ghost use Rattle.perm_meaning.specs.Telling.{act_by, mark_after, passed_by, IsLeft};
+ghost use Rattle.perm_meaning.specs.Evaluator.NumberedValues.{all_by, held_by, Names};
+ghost use Rattle.perm_meaning.specs.Evaluator.SimpleStatements.{own_by};
+ghost use Rattle.perm_meaning.specs.Evaluator.ToldAnswers.{act_by, mark_after, passed_by, IsLeft};
 
 use super::asks::Told;
 use super::own::Own;

@@ -3,7 +3,7 @@
 ghost use Rattle.std.specs.Prelude.{◌≡◌, pos, cond, int_div, int_rem};
 ghost use Rattle.perm_meaning.specs.Expressions.{left_then_right, slot_binary, slot_unary, tagged, then_unary};
 ghost use Rattle.perm_meaning.specs.Names.{Name};
-ghost use Rattle.perm_meaning.specs.Numbered.{given_by, value_by, Names};
+ghost use Rattle.perm_meaning.specs.Evaluator.NumberedValues.{given_by, value_by, Names};
 ghost use Rattle.perm_meaning.specs.Values as values;
 ghost use Rattle.perm_meaning.specs.Values.{int_eq};
 ghost use Rattle.perm_meaning.specs.Expressions.{filled};

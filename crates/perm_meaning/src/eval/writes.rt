@@ -10,7 +10,7 @@ ghost use Rattle.perm_tree.specs.InBody.{setting_at};
 ghost use Rattle.perm_tree.specs.Mentions.{argument_consumes, arguments_consume, written};
 ghost use Rattle.perm_tree.specs.Scopes.{declared_at, declared_by};
 ghost use Rattle.perm_tree.specs.Vars.{just, those};
-ghost use Rattle.perm_meaning.specs.Writes.{call_consumes, from_block, kind_gives, kind_writes, part_writes, rhs_consumes, rhs_gives, stmt_writes};
+ghost use Rattle.perm_meaning.specs.Evaluator.Writes.{call_consumes, from_block, kind_gives, kind_writes, part_writes, rhs_consumes, rhs_gives, stmt_writes};
 
 use super::names;
 use super::own::infos;

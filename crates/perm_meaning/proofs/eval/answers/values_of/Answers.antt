@@ -9,8 +9,8 @@ use Rattle.perm_tree.specs.declared.ast.Shape.TheVariants.{Class}
 use Rattle.perm_tree.specs.CodeOf.{code_of}
 use Rattle.perm_tree.specs.Places.{Listing}
 use Rattle.perm_meaning.specs.Objects.{field_types}
-use Rattle.perm_meaning.specs.Stored.{StartsAs, zero_value}
-use Rattle.perm_meaning.proofs.Made.{types-there, types-gone, object-start, object-count}
+use Rattle.perm_meaning.specs.Evaluator.NumberedHeap.{StartsAs, zero_value}
+use Rattle.perm_meaning.proofs.Evaluator.NewObjects.{types-there, types-gone, object-start, object-count}
 use Rattle.perm_meaning.proofs.eval.answers.values_of.Goals as goal
 
 there : (xs ys : List ClassDecl) (at : ℕ) (c d : ClassDecl) → xs ≡ ys → at < length xs → c ≡ get_or xs at d → slice_get ys at ≡ Some c

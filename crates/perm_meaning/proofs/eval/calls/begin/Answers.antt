@@ -5,10 +5,10 @@ use Rattle.perm_tree.specs.InBody.{vars_at}
 use Rattle.perm_tree.specs.declared.unit.VarInfo.{VarInfo}
 use Rattle.perm_tree.specs.CodeOf.{code_of}
 use Rattle.perm_meaning.specs.declared.eval.values.Value.{Value}
-use Rattle.perm_meaning.specs.Calling.{begun, BeginsCall}
+use Rattle.perm_meaning.specs.Evaluator.BegunCalls.{begun, BeginsCall}
 use Rattle.perm_meaning.specs.Effects.{depth_limit}
-use Rattle.perm_meaning.specs.Numbered.{all_by, value_by}
-use Rattle.perm_meaning.proofs.Calling.{call-gone, call-miscounts, call-overflows, call-begins}
+use Rattle.perm_meaning.specs.Evaluator.NumberedValues.{all_by, value_by}
+use Rattle.perm_meaning.proofs.Evaluator.BegunCalls.{call-gone, call-miscounts, call-overflows, call-begins}
 use Rattle.perm_meaning.proofs.eval.calls.begin.Goals as goal
 
 miscount : (a b x y : ℕ) → a ≡ x → b ≡ y → (a ≡ b → ⊥) → nat_eq x y ≡ false

@@ -4,9 +4,9 @@ use Rattle.perm_tree.specs.Code.{Tie}
 use Rattle.perm_tree.specs.CodeOf.{code_of}
 use Rattle.perm_meaning.specs.declared.eval.values.Given.TheVariants as given
 use Rattle.perm_meaning.specs.declared.eval.values.Value.{Value}
-use Rattle.perm_meaning.specs.Calling.{begun, begun_on, IsCallOf}
+use Rattle.perm_meaning.specs.Evaluator.BegunCalls.{begun, begun_on, IsCallOf}
 use Rattle.perm_meaning.specs.NamedHeap.{Own}
-use Rattle.perm_meaning.specs.Numbered.{all_by, given_by, value_by, Names}
+use Rattle.perm_meaning.specs.Evaluator.NumberedValues.{all_by, given_by, value_by, Names}
 use Rattle.perm_meaning.proofs.eval.calls.begin_at.Goals as goal
 
 pub returns-in-Reference : goal.returns-in-Reference

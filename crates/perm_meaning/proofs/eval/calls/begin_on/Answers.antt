@@ -3,9 +3,9 @@ use Rattle.std.specs.Prelude.{IfOk}
 use Rattle.perm_tree.specs.Code.{Tie}
 use Rattle.perm_tree.specs.CodeOf.{code_of}
 use Rattle.perm_meaning.specs.declared.eval.values.Given.{Given}
-use Rattle.perm_meaning.specs.Calling.{begun_on, IsCallOf}
+use Rattle.perm_meaning.specs.Evaluator.BegunCalls.{begun_on, IsCallOf}
 use Rattle.perm_meaning.specs.NamedHeap.{Own}
-use Rattle.perm_meaning.specs.Numbered.{all_by, given_by, Names}
+use Rattle.perm_meaning.specs.Evaluator.NumberedValues.{all_by, given_by, Names}
 use Rattle.perm_meaning.proofs.eval.calls.begin_on.Goals as goal
 
 pub returns-in-Value : goal.returns-in-Value

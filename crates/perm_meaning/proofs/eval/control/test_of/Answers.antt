@@ -1,6 +1,6 @@
 use Rattle.std.proofs.Common.{sym, subst}
-use Rattle.perm_meaning.specs.Control.{TestsAs}
-use Rattle.perm_meaning.specs.Numbered.{given_by}
+use Rattle.perm_meaning.specs.Evaluator.Control.{TestsAs}
+use Rattle.perm_meaning.specs.Evaluator.NumberedValues.{given_by}
 use Rattle.perm_meaning.proofs.eval.control.test_of.Goals as goal
 
 -- src/eval/control.rt:30:1

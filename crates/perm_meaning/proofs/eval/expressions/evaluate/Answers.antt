@@ -7,10 +7,10 @@ use Rattle.perm_tree.specs.declared.ast.Expr.TheVariants.{Number}
 use Rattle.perm_tree.specs.Code.{Term}
 use Rattle.perm_tree.proofs.LowLaws.{low-le}
 use Rattle.perm_meaning.specs.declared.eval.values.Given.{Given}
-use Rattle.perm_meaning.specs.Evaluation.{OperandsAre}
+use Rattle.perm_meaning.specs.Evaluator.Operands.{OperandsAre}
 use Rattle.perm_meaning.specs.Expressions.{eval, tagged}
-use Rattle.perm_meaning.specs.Numbered.{all_by}
-use Rattle.perm_meaning.proofs.Evaluating.{AreFound, made-of, no-term, none-found, one-more}
+use Rattle.perm_meaning.specs.Evaluator.NumberedValues.{all_by}
+use Rattle.perm_meaning.proofs.Evaluator.Operands.{AreFound, made-of, no-term, none-found, one-more}
 use Rattle.perm_meaning.proofs.eval.expressions.evaluate.Goals as goal
 
 -- a number that doesn't pass the test isn't below

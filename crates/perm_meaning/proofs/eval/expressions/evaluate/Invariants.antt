@@ -1,5 +1,5 @@
-use Rattle.perm_meaning.specs.Numbered.{all_by, Names}
-use Rattle.perm_meaning.proofs.Evaluating.{AreFound}
+use Rattle.perm_meaning.specs.Evaluator.NumberedValues.{all_by, Names}
+use Rattle.perm_meaning.proofs.Evaluator.Operands.{AreFound}
 use Rattle.perm_meaning.proofs.eval.expressions.evaluate.Given as goal
 
 abbrev pub invariant-operands : goal.invariant-operands

@@ -3,9 +3,9 @@ use Rattle.std.specs.Prelude.{IfOk}
 use Rattle.perm_tree.specs.Code.{Tie}
 use Rattle.perm_tree.specs.CodeOf.{code_of}
 use Rattle.perm_meaning.specs.declared.eval.tell.Passed.{Passed}
-use Rattle.perm_meaning.specs.Calling.{begun_if, IsCallOf}
+use Rattle.perm_meaning.specs.Evaluator.BegunCalls.{begun_if, IsCallOf}
 use Rattle.perm_meaning.specs.NamedHeap.{Own}
-use Rattle.perm_meaning.specs.Numbered.{given_by, Names}
+use Rattle.perm_meaning.specs.Evaluator.NumberedValues.{given_by, Names}
 use Rattle.perm_meaning.proofs.eval.invoke.begin_if.Goals as goal
 
 pub returns-in-All : goal.returns-in-All

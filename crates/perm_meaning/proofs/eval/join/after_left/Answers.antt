@@ -2,11 +2,11 @@ use Rattle.std.proofs.Common.{◌∙◌, ◌+◌, ◌++◌, List, append_assoc, 
 use Rattle.std.specs.Prelude.{ℤ}
 use Rattle.perm_meaning.specs.declared.eval.frames.Final.{Final}
 use Rattle.perm_meaning.specs.Custody.{merged, writes_l, writes_r}
-use Rattle.perm_meaning.specs.Frames.{final_by}
-use Rattle.perm_meaning.specs.Joined.{end_of_par}
+use Rattle.perm_meaning.specs.Evaluator.Frames.{final_by}
+use Rattle.perm_meaning.specs.Evaluator.Joins.{end_of_par}
 use Rattle.perm_meaning.specs.Machine.{Fine}
-use Rattle.perm_meaning.specs.Numbered.{all_by}
-use Rattle.perm_meaning.specs.Writes.{par_at}
+use Rattle.perm_meaning.specs.Evaluator.NumberedValues.{all_by}
+use Rattle.perm_meaning.specs.Evaluator.Writes.{par_at}
 use Rattle.perm_meaning.proofs.eval.join.after_left.Goals as goal
 
 pub returns : goal.returns

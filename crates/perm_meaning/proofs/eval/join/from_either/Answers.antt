@@ -1,7 +1,7 @@
 use Rattle.std.proofs.Common.{◌∙◌, ◌≤◌, List, ◌++◌, Option, append-nil, sym, ap, subst}
 use Rattle.perm_meaning.specs.declared.eval.values.Value.{Value}
-use Rattle.perm_meaning.specs.Writes.{part_writes}
-use Rattle.perm_meaning.proofs.Joined.{either-none}
+use Rattle.perm_meaning.specs.Evaluator.Writes.{part_writes}
+use Rattle.perm_meaning.proofs.Evaluator.Joins.{either-none}
 use Rattle.perm_meaning.proofs.eval.join.from_either.Goals as goal
 
 pub returns : goal.returns

@@ -1,6 +1,6 @@
 use Rattle.std.proofs.Common.{◌≡◌, ◌++◌, drop}
 use Rattle.perm_meaning.specs.Custody.{from_either, from_either_at}
-use Rattle.perm_meaning.specs.Writes.{part_writes}
+use Rattle.perm_meaning.specs.Evaluator.Writes.{part_writes}
 use Rattle.perm_meaning.proofs.eval.join.from_either.Given as goal
 
 abbrev pub invariant-vars : goal.invariant-vars

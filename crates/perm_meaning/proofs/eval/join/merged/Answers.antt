@@ -4,9 +4,9 @@ use Rattle.perm_tree.specs.Vars.{Vars}
 use Rattle.perm_meaning.specs.declared.eval.parts.Part.TheVariants as parts
 use Rattle.perm_meaning.specs.declared.eval.values.Value.{Value}
 use Rattle.perm_meaning.specs.Custody.{from_either, merged}
-use Rattle.perm_meaning.specs.Numbered.{all_by, held_by, Names}
-use Rattle.perm_meaning.specs.Writes.{part_writes}
-use Rattle.perm_meaning.proofs.Joined.{map-merged}
+use Rattle.perm_meaning.specs.Evaluator.NumberedValues.{all_by, held_by, Names}
+use Rattle.perm_meaning.specs.Evaluator.Writes.{part_writes}
+use Rattle.perm_meaning.proofs.Evaluator.Joins.{map-merged}
 use Rattle.perm_meaning.proofs.eval.join.merged.Goals as goal
 
 pub returns : goal.returns

@@ -1,13 +1,10 @@
-use Rattle.std.proofs.Common.{◌≡◌, ◌∙◌, ℕ, Option, Some, None, ap, sym, subst}
+use Rattle.std.proofs.Common.{◌≡◌, ◌∙◌, Some, None, ap, sym, subst}
 use Rattle.std.specs.Prelude.{option_copied}
-use Rattle.perm_tree.specs.declared.ast.Method.{Method}
 use Rattle.perm_tree.specs.InBody.{method_at}
 use Rattle.perm_meaning.specs.declared.eval.own.Own.{Own}
-use Rattle.perm_meaning.specs.declared.eval.state.State.{State}
-use Rattle.perm_meaning.specs.Opening.{Begins, MayBegin}
-use Rattle.perm_meaning.specs.Outcome.{Outcome}
+use Rattle.perm_meaning.specs.Evaluator.Opening.{Begins, MayBegin}
 use Rattle.perm_meaning.specs.Plain.{Tells}
-use Rattle.perm_meaning.proofs.Run.Begun.{begins-means, begins-tells, no-run}
+use Rattle.perm_meaning.proofs.Evaluator.Runs.Begun.{begins-means, begins-tells, no-run}
 use Rattle.perm_meaning.proofs.eval.plain.eval_plain.Goals as goal
 
 pub returns : goal.returns

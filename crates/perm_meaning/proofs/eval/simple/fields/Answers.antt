@@ -4,7 +4,7 @@ use Rattle.std.proofs.lemmas.Bool.Decides.{nat_tests}
 use Rattle.std.proofs.lemmas.Option.{slice_get-get_or, slice_get_past}
 use Rattle.perm_tree.specs.declared.ast.ClassDecl.{ClassDecl}
 use Rattle.perm_tree.specs.Places.{Listing}
-use Rattle.perm_meaning.proofs.Asking.{class-there, class-gone}
+use Rattle.perm_meaning.proofs.Evaluator.Asks.{class-there, class-gone}
 use Rattle.perm_meaning.proofs.eval.simple.fields.Goals as goal
 
 there : (xs ys : List ClassDecl) (at : ℕ) (c d : ClassDecl) → xs ≡ ys → at < length xs → c ≡ get_or xs at d → slice_get ys at ≡ Some c

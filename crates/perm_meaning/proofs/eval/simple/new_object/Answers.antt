@@ -2,9 +2,9 @@ use Rattle.std.proofs.Common.{◌∙◌, sym, ap}
 use Rattle.std.specs.Prelude.{slice_get}
 use Rattle.perm_tree.specs.CodeOf.{code_of}
 use Rattle.perm_tree.specs.Lookup.{class_place}
-use Rattle.perm_meaning.specs.Asking.{made_of, count_of}
-use Rattle.perm_meaning.specs.Simple.{own_by}
-use Rattle.perm_meaning.proofs.Asking.{makes-object}
+use Rattle.perm_meaning.specs.Evaluator.Asks.{made_of, count_of}
+use Rattle.perm_meaning.specs.Evaluator.SimpleStatements.{own_by}
+use Rattle.perm_meaning.proofs.Evaluator.Asks.{makes-object}
 use Rattle.perm_meaning.proofs.eval.simple.new_object.Goals as goal
 
 pub returns : goal.returns

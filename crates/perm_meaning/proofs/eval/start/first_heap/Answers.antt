@@ -1,4 +1,4 @@
-use Rattle.std.proofs.Common.{◌≡◌, ◌∙◌, ℕ, ◌+◌, true, List, [], ◌∷◌, ◌++◌, length, sym, ap, subst}
+use Rattle.std.proofs.Common.{◌≡◌, ◌∙◌, ◌+◌, true, List, [], ◌∷◌, ◌++◌, length, sym, ap, subst}
 use Rattle.std.specs.Prelude.{nat_le}
 use Rattle.perm_tree.specs.declared.ast.Shape.TheVariants.{Class}
 use Rattle.perm_tree.specs.CodeOf.{code_of}
@@ -6,8 +6,8 @@ use Rattle.perm_tree.specs.Lookup.{main_place}
 use Rattle.perm_tree.specs.Places.{Listing}
 use Rattle.perm_meaning.specs.declared.eval.values.Value.{Value}
 use Rattle.perm_meaning.specs.Objects.{field_types, size}
-use Rattle.perm_meaning.specs.Stored.{Stored, StartsAs}
-use Rattle.perm_meaning.proofs.Run.Begun.{has-both}
+use Rattle.perm_meaning.specs.Evaluator.NumberedHeap.{Stored, StartsAs}
+use Rattle.perm_meaning.proofs.Evaluator.Runs.Begun.{has-both}
 use Rattle.perm_meaning.proofs.eval.start.first_heap.Goals as goal
 
 pub returns : goal.returns

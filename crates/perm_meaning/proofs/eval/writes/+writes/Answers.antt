@@ -8,7 +8,7 @@ use Rattle.perm_tree.specs.CodeOf.{block_code}
 use Rattle.perm_tree.specs.InBody.{setting_at}
 use Rattle.perm_tree.specs.Mentions.{written}
 use Rattle.perm_tree.specs.Places.{IsPlaced, Listing}
-use Rattle.perm_meaning.proofs.Writes.{AreWriting, below-top, first-top, from-end, from-stmt, no-stmt, second-top, stmt-writes, top}
+use Rattle.perm_meaning.proofs.Evaluator.Writes.{AreWriting, below-top, first-top, from-end, from-stmt, no-stmt, second-top, stmt-writes, top}
 use Rattle.perm_meaning.proofs.eval.writes.+writes.Goals as goal
 
 -- a number that doesn't pass the test isn't below

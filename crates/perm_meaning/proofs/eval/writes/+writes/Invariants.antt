@@ -3,7 +3,7 @@ use Rattle.perm_tree.specs.Code.{Code}
 use Rattle.perm_tree.specs.CodeOf.{block_code}
 use Rattle.perm_tree.specs.InBody.{setting_at}
 use Rattle.perm_tree.specs.Mentions.{written}
-use Rattle.perm_meaning.proofs.Writes.{top}
+use Rattle.perm_meaning.proofs.Evaluator.Writes.{top}
 use Rattle.perm_meaning.proofs.eval.writes.+writes.Given as goal
 
 abbrev pub decreases-some_writes : goal.decreases-some_writes

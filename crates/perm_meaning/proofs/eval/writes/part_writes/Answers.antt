@@ -1,7 +1,7 @@
 use Rattle.std.proofs.Common.{◌≡◌, ◌∙◌, List, ℕ, subst}
 use Rattle.perm_tree.specs.InBody.{setting_at}
-use Rattle.perm_meaning.specs.Writes.{stmts_write}
-use Rattle.perm_meaning.proofs.Writes.{block-writes}
+use Rattle.perm_meaning.specs.Evaluator.Writes.{stmts_write}
+use Rattle.perm_meaning.proofs.Evaluator.Writes.{block-writes}
 use Rattle.perm_meaning.proofs.eval.writes.part_writes.Goals as goal
 
 pub returns : goal.returns

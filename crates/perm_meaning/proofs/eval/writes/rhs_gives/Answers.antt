@@ -3,7 +3,7 @@ use Rattle.std.specs.Prelude.{◌||◌}
 use Rattle.perm_tree.specs.declared.ast.Rhs.{Rhs}
 use Rattle.perm_tree.specs.CodeNames.{var_at}
 use Rattle.perm_tree.specs.InBody.{setting_at}
-use Rattle.perm_meaning.specs.Writes.{rhs_gives}
+use Rattle.perm_meaning.specs.Evaluator.Writes.{rhs_gives}
 use Rattle.perm_meaning.proofs.eval.writes.rhs_gives.Goals as goal
 
 pub returns-in-Recover : goal.returns-in-Recover

@@ -1,8 +1,8 @@
 use Rattle.std.proofs.Common.{◌≡◌, ◌∙◌, ◌+◌, ◌++◌, ◌∷◌, [], length, ap, sym, subst, arith}
 use Rattle.std.specs.Map.{values_of}
 use Rattle.perm_meaning.specs.Objects.{size}
-use Rattle.perm_meaning.specs.Stored.{CountFrom, Stored}
-use Rattle.perm_meaning.proofs.NumberedMaps.{add-at, add-values, length-values, put-next}
+use Rattle.perm_meaning.specs.Evaluator.NumberedHeap.{CountFrom, Stored}
+use Rattle.perm_meaning.proofs.Evaluator.NumberedMaps.{add-at, add-values, length-values, put-next}
 use Rattle.perm_meaning.proofs.eval.heap.Heap.add.Goals as goal
 
 pub invariant_of-self-2 : goal.invariant_of-self-2

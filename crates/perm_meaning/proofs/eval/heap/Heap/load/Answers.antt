@@ -4,8 +4,8 @@ use Rattle.std.proofs.lemmas.Option.{slice_get_past, slice_get_read}
 use Rattle.std.specs.Prelude.{option_copied, slice_get}
 use Rattle.std.specs.Slice.{IsItemAt}
 use Rattle.perm_meaning.specs.declared.eval.values.Value.{Value}
-use Rattle.perm_meaning.specs.Stored.{value_of_object, Stored}
-use Rattle.perm_meaning.proofs.NumberedMaps.{lookup-at}
+use Rattle.perm_meaning.specs.Evaluator.NumberedHeap.{value_of_object, Stored}
+use Rattle.perm_meaning.proofs.Evaluator.NumberedMaps.{lookup-at}
 use Rattle.perm_meaning.proofs.eval.heap.Heap.load.Goals as goal
 
 -- a copy of what is lent at a place of a list

@@ -1,6 +1,6 @@
 use Rattle.std.proofs.Common.{◌∙◌, sym}
 use Rattle.perm_tree.specs.CodeOf.{code_of}
-use Rattle.perm_meaning.proofs.Made.{array-made}
+use Rattle.perm_meaning.proofs.Evaluator.NewObjects.{array-made}
 use Rattle.perm_meaning.proofs.eval.heap.Heap.make_array.Goals as goal
 
 pub returns : goal.returns

@@ -1,9 +1,9 @@
-use Rattle.std.proofs.Common.{◌≡◌, ◌∙◌, ap, sym, subst}
+use Rattle.std.proofs.Common.{◌∙◌, ap, sym, subst}
 use Rattle.std.specs.Option.{option_copied_mut}
 use Rattle.indexmap.specs.IndexMap.{values}
-use Rattle.perm_meaning.specs.Stored.{put_at, CountFrom, Stored}
+use Rattle.perm_meaning.specs.Evaluator.NumberedHeap.{put_at, CountFrom, Stored}
 use Rattle.perm_meaning.specs.contracts.eval.heap.Heap.{the_invariant, the_view}
-use Rattle.perm_meaning.proofs.NumberedMaps.{put-nowhere, put-there, set-counts}
+use Rattle.perm_meaning.proofs.Evaluator.NumberedMaps.{put-nowhere, put-there, set-counts}
 use Rattle.perm_meaning.proofs.eval.heap.Heap.put.Goals as goal
 use Rattle.perm_meaning.proofs.eval.heap.Heap.put.Goals.{in-Some, in_default}
 

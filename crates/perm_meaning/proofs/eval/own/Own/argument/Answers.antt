@@ -3,8 +3,8 @@ use Rattle.perm_tree.specs.declared.ast.Arg.{Arg}
 use Rattle.perm_tree.specs.CodeNames.{argument}
 use Rattle.perm_tree.specs.InBody.{setting_at}
 use Rattle.perm_meaning.specs.Expressions.{clear, tagged}
-use Rattle.perm_meaning.specs.Numbered.{all_by}
-use Rattle.perm_meaning.specs.Simple.{after_argument}
+use Rattle.perm_meaning.specs.Evaluator.NumberedValues.{all_by}
+use Rattle.perm_meaning.specs.Evaluator.SimpleStatements.{after_argument}
 use Rattle.perm_meaning.proofs.eval.own.Own.argument.Goals as goal
 
 pub returns-in-Consume-clause-vars : goal.returns-in-Consume-clause-vars

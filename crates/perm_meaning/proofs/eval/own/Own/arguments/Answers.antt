@@ -10,9 +10,9 @@ use Rattle.perm_meaning.specs.declared.eval.own.Own.{Own}
 use Rattle.perm_meaning.specs.Effects.{on_arguments}
 use Rattle.perm_meaning.specs.Expressions.{tagged, value_of}
 use Rattle.perm_meaning.specs.NamedHeap.{Held}
-use Rattle.perm_meaning.specs.Numbered.{all_by, given_by, held_by}
-use Rattle.perm_meaning.specs.Simple.{after_argument}
-use Rattle.perm_meaning.proofs.Asking.{made-next, made-none, next-value, next-halts, next-sticks}
+use Rattle.perm_meaning.specs.Evaluator.NumberedValues.{all_by, given_by, held_by}
+use Rattle.perm_meaning.specs.Evaluator.SimpleStatements.{after_argument}
+use Rattle.perm_meaning.proofs.Evaluator.Asks.{made-next, made-none, next-value, next-halts, next-sticks}
 use Rattle.perm_meaning.proofs.eval.own.Own.arguments.Goals as goal
 
 pub returns-in-Trap-clause-passed : goal.returns-in-Trap-clause-passed

@@ -2,11 +2,11 @@ use Rattle.std.proofs.Common.{◌≡◌, List, [], drop}
 use Rattle.std.specs.Prelude.{map}
 use Rattle.perm_tree.specs.CodeNames.{argument}
 use Rattle.perm_tree.specs.InBody.{setting_at}
-use Rattle.perm_meaning.specs.Asking.{Way}
+use Rattle.perm_meaning.specs.Evaluator.Asks.{Way}
 use Rattle.perm_meaning.specs.Effects.{on_arguments}
 use Rattle.perm_meaning.specs.Expressions.{tagged}
 use Rattle.perm_meaning.specs.NamedHeap.{Held}
-use Rattle.perm_meaning.specs.Numbered.{all_by, Names}
+use Rattle.perm_meaning.specs.Evaluator.NumberedValues.{all_by, Names}
 use Rattle.perm_meaning.proofs.eval.own.Own.arguments.Given as goal
 
 abbrev pub invariant-args-2 : goal.invariant-args-2

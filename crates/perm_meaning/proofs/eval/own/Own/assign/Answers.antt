@@ -1,7 +1,7 @@
 use Rattle.perm_tree.specs.CodeNames.{argument}
 use Rattle.perm_tree.specs.CodeOf.{code_of}
 use Rattle.perm_tree.specs.InBody.{setting_at}
-use Rattle.perm_meaning.proofs.Asking.{assigns}
+use Rattle.perm_meaning.proofs.Evaluator.Asks.{assigns}
 use Rattle.perm_meaning.proofs.eval.own.Own.assign.Goals as goal
 
 pub returns-clause-asks : goal.returns-clause-asks

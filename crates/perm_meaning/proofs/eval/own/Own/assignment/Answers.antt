@@ -4,7 +4,7 @@ use Rattle.perm_tree.specs.Code.{TakeField}
 use Rattle.perm_tree.specs.CodeNames.{var_at}
 use Rattle.perm_tree.specs.CodeOf.{code_of}
 use Rattle.perm_tree.specs.InBody.{setting_at}
-use Rattle.perm_meaning.specs.Simple.{assignment_to, Asks, MayAsk}
+use Rattle.perm_meaning.specs.Evaluator.SimpleStatements.{assignment_to, Asks, MayAsk}
 use Rattle.perm_meaning.proofs.eval.own.Own.assignment.Goals as goal
 
 pub returns-in-Field-clause-asks : goal.returns-in-Field-clause-asks

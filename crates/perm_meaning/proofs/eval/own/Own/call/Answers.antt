@@ -6,7 +6,7 @@ use Rattle.perm_tree.specs.CodeNames.{argument, call, call_tie, ty_at, var_at}
 use Rattle.perm_tree.specs.CodeOf.{code_of}
 use Rattle.perm_tree.specs.InBody.{setting_at}
 use Rattle.perm_tree.specs.Lookup.{method_place}
-use Rattle.perm_meaning.specs.Invoking.{Invokes}
+use Rattle.perm_meaning.specs.Evaluator.CallStatements.{Invokes}
 use Rattle.perm_meaning.proofs.eval.own.Own.call.Goals as goal
 
 pub returns-then-called-clause-callee : goal.returns-then-called-clause-callee

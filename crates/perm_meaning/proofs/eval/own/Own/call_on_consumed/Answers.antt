@@ -8,17 +8,17 @@ use Rattle.perm_tree.specs.CodeOf.{code_of}
 use Rattle.perm_tree.specs.InBody.{setting_at}
 use Rattle.perm_meaning.specs.declared.eval.own.Own.{Own}
 use Rattle.perm_meaning.specs.declared.eval.values.Given.{Given}
-use Rattle.perm_meaning.specs.Asking.{Way}
-use Rattle.perm_meaning.specs.Calling.{begun_if, IsCallOf}
+use Rattle.perm_meaning.specs.Evaluator.Asks.{Way}
+use Rattle.perm_meaning.specs.Evaluator.BegunCalls.{begun_if, IsCallOf}
 use Rattle.perm_meaning.specs.Effects.{on_arguments}
 use Rattle.perm_meaning.specs.Expressions.{clear, tagged}
-use Rattle.perm_meaning.specs.Invoking.{Invokes}
+use Rattle.perm_meaning.specs.Evaluator.CallStatements.{Invokes}
 use Rattle.perm_meaning.specs.NamedHeap as heaps
 use Rattle.perm_meaning.specs.NamedHeap.{Held}
-use Rattle.perm_meaning.specs.Numbered.{all_by, given_by, value_by, Names}
-use Rattle.perm_meaning.specs.Simple.{own_by}
-use Rattle.perm_meaning.specs.Telling.{passed_by}
-use Rattle.perm_meaning.proofs.Invoking.{calls-consumed, receiver-halts, receiver-sticks}
+use Rattle.perm_meaning.specs.Evaluator.NumberedValues.{all_by, given_by, value_by, Names}
+use Rattle.perm_meaning.specs.Evaluator.SimpleStatements.{own_by}
+use Rattle.perm_meaning.specs.Evaluator.ToldAnswers.{passed_by}
+use Rattle.perm_meaning.proofs.Evaluator.CallStatements.{calls-consumed, receiver-halts, receiver-sticks}
 use Rattle.perm_meaning.proofs.eval.own.Own.call_on_consumed.Goals as goal
 
 pub returns-in_ok-passed-in-Value-clause-callee : goal.returns-in_ok-passed-in-Value-clause-callee

@@ -7,17 +7,17 @@ use Rattle.perm_tree.specs.CodeNames.{argument, var_at}
 use Rattle.perm_tree.specs.CodeOf.{code_of}
 use Rattle.perm_tree.specs.InBody.{setting_at}
 use Rattle.perm_meaning.specs.declared.eval.own.Own.{Own}
-use Rattle.perm_meaning.specs.Asking.{Way}
-use Rattle.perm_meaning.specs.Calling.{begun_if, IsCallOf}
+use Rattle.perm_meaning.specs.Evaluator.Asks.{Way}
+use Rattle.perm_meaning.specs.Evaluator.BegunCalls.{begun_if, IsCallOf}
 use Rattle.perm_meaning.specs.Effects.{on_arguments}
 use Rattle.perm_meaning.specs.Expressions.{look_up, tagged}
-use Rattle.perm_meaning.specs.Invoking.{Invokes}
+use Rattle.perm_meaning.specs.Evaluator.CallStatements.{Invokes}
 use Rattle.perm_meaning.specs.NamedHeap as heaps
 use Rattle.perm_meaning.specs.NamedHeap.{Held}
-use Rattle.perm_meaning.specs.Numbered.{all_by, given_by, Names}
-use Rattle.perm_meaning.specs.Simple.{own_by}
-use Rattle.perm_meaning.specs.Telling.{passed_by}
-use Rattle.perm_meaning.proofs.Invoking.{calls-kept}
+use Rattle.perm_meaning.specs.Evaluator.NumberedValues.{all_by, given_by, Names}
+use Rattle.perm_meaning.specs.Evaluator.SimpleStatements.{own_by}
+use Rattle.perm_meaning.specs.Evaluator.ToldAnswers.{passed_by}
+use Rattle.perm_meaning.proofs.Evaluator.CallStatements.{calls-kept}
 use Rattle.perm_meaning.proofs.eval.own.Own.call_on_kept.Goals as goal
 
 pub returns-clause-callee : goal.returns-clause-callee

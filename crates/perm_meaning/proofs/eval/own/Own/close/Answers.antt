@@ -6,8 +6,8 @@ use Rattle.perm_tree.specs.InBody.{setting_at}
 use Rattle.perm_tree.specs.Scopes.{declared_at}
 use Rattle.perm_meaning.specs.declared.eval.own.Own.{Own}
 use Rattle.perm_meaning.specs.Expressions.{clear_all, tagged}
-use Rattle.perm_meaning.specs.Numbered.{all_by}
-use Rattle.perm_meaning.proofs.Ends.{own-step, own-done}
+use Rattle.perm_meaning.specs.Evaluator.NumberedValues.{all_by}
+use Rattle.perm_meaning.proofs.Evaluator.PartEnds.{own-step, own-done}
 use Rattle.perm_meaning.proofs.eval.own.Own.close.Goals as goal
 
 pub stmts-preserved : goal.stmts-preserved

@@ -1,9 +1,9 @@
 use Rattle.std.proofs.Common.{◌≡◌, drop}
 use Rattle.perm_tree.specs.CodeNames.{own_vars}
 use Rattle.perm_tree.specs.InBody.{setting_at}
-use Rattle.perm_meaning.specs.Parts.{own_in}
+use Rattle.perm_meaning.specs.Evaluator.Parts.{own_in}
 use Rattle.perm_meaning.specs.Expressions.{clear_all, tagged}
-use Rattle.perm_meaning.specs.Numbered.{all_by, Names}
+use Rattle.perm_meaning.specs.Evaluator.NumberedValues.{all_by, Names}
 use Rattle.perm_meaning.proofs.eval.own.Own.close.Given as goal
 
 abbrev pub invariant-stmts : goal.invariant-stmts

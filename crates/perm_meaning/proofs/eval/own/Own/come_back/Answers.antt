@@ -1,8 +1,8 @@
 use Rattle.std.proofs.Common.{◌∙◌, ℕ, Option, Some, sym, ap}
 use Rattle.perm_meaning.specs.declared.eval.own.Own.{Own}
 use Rattle.perm_meaning.specs.Expressions.{assign_into}
-use Rattle.perm_meaning.specs.Numbered.{all_by, value_by}
-use Rattle.perm_meaning.proofs.Asking.{set-by}
+use Rattle.perm_meaning.specs.Evaluator.NumberedValues.{all_by, value_by}
+use Rattle.perm_meaning.proofs.Evaluator.Asks.{set-by}
 use Rattle.perm_meaning.proofs.eval.own.Own.come_back.Goals as goal
 
 pub returns-in-Some-clause-vars : goal.returns-in-Some-clause-vars

@@ -1,8 +1,8 @@
 use Rattle.std.proofs.Common.{sym, subst}
 use Rattle.perm_tree.specs.CodeOf.{code_of}
 use Rattle.perm_meaning.specs.declared.eval.parts.Part.{Part}
-use Rattle.perm_meaning.specs.Ends.{EndsAs}
-use Rattle.perm_meaning.specs.Parts.{end_in}
+use Rattle.perm_meaning.specs.Evaluator.PartEnds.{EndsAs}
+use Rattle.perm_meaning.specs.Evaluator.Parts.{end_in}
 use Rattle.perm_meaning.proofs.eval.own.Own.end.Goals as goal
 
 pub returns-in-First-clause-ends : goal.returns-in-First-clause-ends

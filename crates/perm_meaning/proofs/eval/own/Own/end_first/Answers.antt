@@ -4,9 +4,9 @@ use Rattle.perm_tree.specs.CodeOf.{code_of}
 use Rattle.perm_tree.specs.InBody.{setting_at}
 use Rattle.perm_tree.specs.Places.{Listing}
 use Rattle.perm_meaning.specs.declared.eval.ends.Ended.TheVariants.{Closes}
-use Rattle.perm_meaning.specs.Ends.{EndsAs}
-use Rattle.perm_meaning.specs.Parts.{first_end_if}
-use Rattle.perm_meaning.proofs.Ends.{stmt-there, stmt-gone}
+use Rattle.perm_meaning.specs.Evaluator.PartEnds.{EndsAs}
+use Rattle.perm_meaning.specs.Evaluator.Parts.{first_end_if}
+use Rattle.perm_meaning.proofs.Evaluator.PartEnds.{stmt-there, stmt-gone}
 use Rattle.perm_meaning.proofs.eval.own.Own.end_first.Goals as goal
 
 pub returns-in-Some-clause-ends : goal.returns-in-Some-clause-ends

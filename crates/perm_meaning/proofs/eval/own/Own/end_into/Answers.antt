@@ -2,8 +2,8 @@ use Rattle.std.proofs.Common.{sym, subst}
 use Rattle.perm_tree.specs.declared.ast.Rhs.{Rhs}
 use Rattle.perm_tree.specs.CodeOf.{code_of}
 use Rattle.perm_tree.specs.InBody.{setting_at}
-use Rattle.perm_meaning.specs.Ends.{EndsAs}
-use Rattle.perm_meaning.specs.Parts.{give_of}
+use Rattle.perm_meaning.specs.Evaluator.PartEnds.{EndsAs}
+use Rattle.perm_meaning.specs.Evaluator.Parts.{give_of}
 use Rattle.perm_meaning.proofs.eval.own.Own.end_into.Goals as goal
 
 pub returns-in-Recover-clause-ends : goal.returns-in-Recover-clause-ends

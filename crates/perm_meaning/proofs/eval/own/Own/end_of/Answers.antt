@@ -2,8 +2,8 @@ use Rattle.std.proofs.Common.{sym, subst}
 use Rattle.perm_tree.specs.declared.ast.StmtKind.{StmtKind}
 use Rattle.perm_tree.specs.CodeOf.{code_of}
 use Rattle.perm_tree.specs.InBody.{setting_at}
-use Rattle.perm_meaning.specs.Ends.{EndsAs}
-use Rattle.perm_meaning.specs.Parts.{first_end, give_of}
+use Rattle.perm_meaning.specs.Evaluator.PartEnds.{EndsAs}
+use Rattle.perm_meaning.specs.Evaluator.Parts.{first_end, give_of}
 use Rattle.perm_meaning.proofs.eval.own.Own.end_of.Goals as goal
 
 pub returns-in-Assign-clause-ends : goal.returns-in-Assign-clause-ends

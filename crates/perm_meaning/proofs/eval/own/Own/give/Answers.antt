@@ -3,8 +3,8 @@ use Rattle.perm_tree.specs.CodeNames.{var_at}
 use Rattle.perm_tree.specs.CodeOf.{code_of}
 use Rattle.perm_tree.specs.InBody.{setting_at}
 use Rattle.perm_meaning.specs.Expressions.{clear, tagged}
-use Rattle.perm_meaning.specs.Numbered.{all_by}
-use Rattle.perm_meaning.proofs.Ends.{gives-as}
+use Rattle.perm_meaning.specs.Evaluator.NumberedValues.{all_by}
+use Rattle.perm_meaning.proofs.Evaluator.PartEnds.{gives-as}
 use Rattle.perm_meaning.proofs.eval.own.Own.give.Goals as goal
 
 pub returns-clause-ends : goal.returns-clause-ends

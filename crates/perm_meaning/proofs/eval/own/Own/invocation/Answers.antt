@@ -4,7 +4,7 @@ use Rattle.perm_tree.specs.declared.ast.StmtKind.{StmtKind}
 use Rattle.perm_tree.specs.CodeNames.{call, var_at}
 use Rattle.perm_tree.specs.CodeOf.{code_of}
 use Rattle.perm_tree.specs.InBody.{setting_at}
-use Rattle.perm_meaning.specs.Invoking.{call_in, call_into, Invokes, MayInvoke}
+use Rattle.perm_meaning.specs.Evaluator.CallStatements.{call_in, call_into, Invokes, MayInvoke}
 use Rattle.perm_meaning.proofs.eval.own.Own.invocation.Goals as goal
 
 pub returns-in_ok-call-in-Call-r-clause-callee : goal.returns-in_ok-call-in-Call-r-clause-callee

@@ -1,7 +1,7 @@
 use Rattle.std.proofs.Common.{ap, ◌∙◌}
 use Rattle.perm_meaning.specs.declared.eval.own.Own.{Own}
-use Rattle.perm_meaning.specs.Numbered.{all_by}
-use Rattle.perm_meaning.proofs.Asking.{clear-by}
+use Rattle.perm_meaning.specs.Evaluator.NumberedValues.{all_by}
+use Rattle.perm_meaning.proofs.Evaluator.Asks.{clear-by}
 use Rattle.perm_meaning.proofs.eval.own.Own.lose.Goals as goal
 
 pub returns-clause-vars : goal.returns-clause-vars

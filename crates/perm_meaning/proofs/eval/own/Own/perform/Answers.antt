@@ -3,13 +3,13 @@ use Rattle.perm_tree.specs.declared.errors.TrapKind.{TrapKind}
 use Rattle.perm_tree.specs.CodeOf.{code_of}
 use Rattle.perm_meaning.specs.declared.eval.answers.Answer.{Answer}
 use Rattle.perm_meaning.specs.declared.eval.own.Own.{Own}
-use Rattle.perm_meaning.specs.Asking.{told_by}
+use Rattle.perm_meaning.specs.Evaluator.Asks.{told_by}
 use Rattle.perm_meaning.specs.Names.{Mark}
-use Rattle.perm_meaning.specs.Numbered.{held_by, Names}
-use Rattle.perm_meaning.specs.Simple.{own_by, Asks}
-use Rattle.perm_meaning.specs.Stored.{Answers}
-use Rattle.perm_meaning.specs.Telling.{act_by, mark_after, IsLeft}
-use Rattle.perm_meaning.proofs.Tied.Stepping.{fills, goes, misses, stays-in-place, sticks, traps}
+use Rattle.perm_meaning.specs.Evaluator.NumberedValues.{held_by, Names}
+use Rattle.perm_meaning.specs.Evaluator.SimpleStatements.{own_by, Asks}
+use Rattle.perm_meaning.specs.Evaluator.NumberedHeap.{Answers}
+use Rattle.perm_meaning.specs.Evaluator.ToldAnswers.{act_by, mark_after, IsLeft}
+use Rattle.perm_meaning.proofs.Evaluator.Ties.Stepping.{fills, goes, misses, stays-in-place, sticks, traps}
 use Rattle.perm_meaning.proofs.eval.own.Own.perform.Goals as goal
 
 pub returns-in-None-clause-steps : goal.returns-in-None-clause-steps

@@ -4,7 +4,7 @@ use Rattle.perm_tree.specs.Code.{LoadField, LoadLength}
 use Rattle.perm_tree.specs.CodeNames.{field_at, var_at}
 use Rattle.perm_tree.specs.CodeOf.{code_of}
 use Rattle.perm_tree.specs.InBody.{setting_at}
-use Rattle.perm_meaning.specs.Simple.{Asks}
+use Rattle.perm_meaning.specs.Evaluator.SimpleStatements.{Asks}
 use Rattle.perm_meaning.proofs.eval.own.Own.read.Goals as goal
 
 pub returns-then-is_length : goal.returns-then-is_length

@@ -2,8 +2,8 @@ use Rattle.std.proofs.Common.{◌∙◌, List, Some, ap}
 use Rattle.perm_meaning.specs.declared.eval.own.Own.{Own}
 use Rattle.perm_meaning.specs.Expressions.{assign}
 use Rattle.perm_meaning.specs.NamedHeap.{Held}
-use Rattle.perm_meaning.specs.Numbered.{all_by, held_by}
-use Rattle.perm_meaning.proofs.Asking.{set-by}
+use Rattle.perm_meaning.specs.Evaluator.NumberedValues.{all_by, held_by}
+use Rattle.perm_meaning.proofs.Evaluator.Asks.{set-by}
 use Rattle.perm_meaning.proofs.eval.own.Own.recover.Goals as goal
 
 pub returns-clause-vars : goal.returns-clause-vars

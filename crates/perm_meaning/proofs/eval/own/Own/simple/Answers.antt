@@ -5,7 +5,7 @@ use Rattle.perm_tree.specs.Code.{Declare, StoreField}
 use Rattle.perm_tree.specs.CodeNames.{var_at, argument}
 use Rattle.perm_tree.specs.CodeOf.{code_of}
 use Rattle.perm_tree.specs.InBody.{setting_at}
-use Rattle.perm_meaning.specs.Simple.{assignment_to, simple_of, Asks, MayAsk}
+use Rattle.perm_meaning.specs.Evaluator.SimpleStatements.{assignment_to, simple_of, Asks, MayAsk}
 use Rattle.perm_meaning.proofs.eval.own.Own.simple.Goals as goal
 
 pub returns-in-Declare-clause-asks : goal.returns-in-Declare-clause-asks

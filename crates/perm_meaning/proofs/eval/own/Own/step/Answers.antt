@@ -5,9 +5,9 @@ use Rattle.perm_tree.specs.InBody.{setting_at}
 use Rattle.perm_meaning.specs.declared.eval.asks.Asked.{Asked}
 use Rattle.perm_meaning.specs.declared.eval.own.Own.{Own}
 use Rattle.perm_meaning.specs.declared.eval.step.Step.{Step}
-use Rattle.perm_meaning.specs.Simple.{simple_of, Asks, MayAsk}
-use Rattle.perm_meaning.specs.Stepping.{IsStep, MayStep}
-use Rattle.perm_meaning.specs.Stored.{Stored}
+use Rattle.perm_meaning.specs.Evaluator.SimpleStatements.{simple_of, Asks, MayAsk}
+use Rattle.perm_meaning.specs.Evaluator.SimpleSteps.{IsStep, MayStep}
+use Rattle.perm_meaning.specs.Evaluator.NumberedHeap.{Stored}
 use Rattle.perm_meaning.proofs.Leads.{none-some, some-inj}
 use Rattle.perm_meaning.proofs.eval.own.Own.step.Goals as goal
 

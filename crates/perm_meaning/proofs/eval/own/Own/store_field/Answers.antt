@@ -4,8 +4,8 @@ use Rattle.perm_tree.specs.CodeOf.{code_of}
 use Rattle.perm_tree.specs.InBody.{setting_at}
 use Rattle.perm_meaning.specs.declared.eval.own.Own.{Own}
 use Rattle.perm_meaning.specs.Expressions.{look_up, tagged}
-use Rattle.perm_meaning.specs.Numbered.{all_by, given_by}
-use Rattle.perm_meaning.proofs.Asking.{stores}
+use Rattle.perm_meaning.specs.Evaluator.NumberedValues.{all_by, given_by}
+use Rattle.perm_meaning.proofs.Evaluator.Asks.{stores}
 use Rattle.perm_meaning.proofs.eval.own.Own.store_field.Goals as goal
 
 pub returns-clause-asks : goal.returns-clause-asks

@@ -3,15 +3,15 @@ use Rattle.std.specs.Prelude.{slice_set}
 use Rattle.perm_meaning.specs.declared.eval.asks.Told.{Told}
 use Rattle.perm_meaning.specs.declared.eval.own.Own.{Own}
 use Rattle.perm_meaning.specs.declared.eval.values.Value.{Value}
-use Rattle.perm_meaning.specs.Asking.{told_by}
+use Rattle.perm_meaning.specs.Evaluator.Asks.{told_by}
 use Rattle.perm_meaning.specs.Effects.{GoesOn}
 use Rattle.perm_meaning.specs.NamedHeap as heaps
 use Rattle.perm_meaning.specs.NamedHeap.{Held}
 use Rattle.perm_meaning.specs.Names.{Mark, after_object}
-use Rattle.perm_meaning.specs.Numbered.{all_by, held_by, Names}
-use Rattle.perm_meaning.specs.Simple.{own_by}
-use Rattle.perm_meaning.specs.Telling.{mark_after}
-use Rattle.perm_meaning.proofs.Asking.{set-by}
+use Rattle.perm_meaning.specs.Evaluator.NumberedValues.{all_by, held_by, Names}
+use Rattle.perm_meaning.specs.Evaluator.SimpleStatements.{own_by}
+use Rattle.perm_meaning.specs.Evaluator.ToldAnswers.{mark_after}
+use Rattle.perm_meaning.proofs.Evaluator.Asks.{set-by}
 use Rattle.perm_meaning.proofs.eval.own.Own.tell.Goals as goal
 
 -- what a branch has after one of its variables is set

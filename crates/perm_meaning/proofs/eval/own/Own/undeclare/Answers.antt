@@ -3,8 +3,8 @@ use Rattle.std.specs.Prelude.{option_to_list}
 use Rattle.perm_tree.specs.InBody.{setting_at}
 use Rattle.perm_tree.specs.Scopes.{declared_at}
 use Rattle.perm_meaning.specs.Expressions.{clear, tagged}
-use Rattle.perm_meaning.specs.Numbered.{all_by}
-use Rattle.perm_meaning.proofs.Ends.{undeclared}
+use Rattle.perm_meaning.specs.Evaluator.NumberedValues.{all_by}
+use Rattle.perm_meaning.proofs.Evaluator.PartEnds.{undeclared}
 use Rattle.perm_meaning.proofs.eval.own.Own.undeclare.Goals as goal
 
 pub returns-in-Some-clause-vars : goal.returns-in-Some-clause-vars

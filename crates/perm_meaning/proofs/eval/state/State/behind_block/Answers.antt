@@ -2,8 +2,8 @@ use Rattle.std.proofs.Common.{sym, subst}
 use Rattle.perm_meaning.specs.declared.eval.frames.Frame.TheVariants as frames
 use Rattle.perm_meaning.specs.declared.eval.state.Fate.{Fate}
 use Rattle.perm_meaning.specs.declared.eval.state.Fate.TheVariants as fates
-use Rattle.perm_meaning.specs.Run.{below_frame, IsNext}
-use Rattle.perm_meaning.proofs.Run.BehindBlocks.{block-fails-next, block-next, block-stuck-next}
+use Rattle.perm_meaning.specs.Evaluator.Runs.{below_frame, IsNext}
+use Rattle.perm_meaning.proofs.Evaluator.Runs.BehindBlocks.{block-fails-next, block-next, block-stuck-next}
 use Rattle.perm_meaning.proofs.eval.state.State.behind_block.Goals as goal
 
 pub returns-in-Closes : goal.returns-in-Closes

@@ -2,9 +2,9 @@ use Rattle.std.proofs.Common.{sym, subst}
 use Rattle.perm_meaning.specs.declared.eval.frames.Frame.TheVariants as frames
 use Rattle.perm_meaning.specs.declared.eval.state.Fate.{Fate}
 use Rattle.perm_meaning.specs.declared.eval.state.Fate.TheVariants as fates
-use Rattle.perm_meaning.specs.Run.{below_frame, IsNext}
-use Rattle.perm_meaning.specs.State.{left_call}
-use Rattle.perm_meaning.proofs.Run.BehindBlocks.{call-fails-next, call-next, call-stuck-next}
+use Rattle.perm_meaning.specs.Evaluator.Runs.{below_frame, IsNext}
+use Rattle.perm_meaning.specs.Evaluator.States.{left_call}
+use Rattle.perm_meaning.proofs.Evaluator.Runs.BehindBlocks.{call-fails-next, call-next, call-stuck-next}
 use Rattle.perm_meaning.proofs.eval.state.State.behind_call.Goals as goal
 
 pub returns-in-Returns : goal.returns-in-Returns

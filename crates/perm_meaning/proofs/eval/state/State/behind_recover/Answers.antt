@@ -2,8 +2,8 @@ use Rattle.std.proofs.Common.{sym, subst}
 use Rattle.perm_meaning.specs.declared.eval.frames.Frame.TheVariants as frames
 use Rattle.perm_meaning.specs.declared.eval.state.Fate.{Fate}
 use Rattle.perm_meaning.specs.declared.eval.state.Fate.TheVariants as fates
-use Rattle.perm_meaning.specs.Run.{below_frame, IsNext}
-use Rattle.perm_meaning.proofs.Run.BehindBlocks.{recover-fails-next, recover-next, recover-stuck-next}
+use Rattle.perm_meaning.specs.Evaluator.Runs.{below_frame, IsNext}
+use Rattle.perm_meaning.proofs.Evaluator.Runs.BehindBlocks.{recover-fails-next, recover-next, recover-stuck-next}
 use Rattle.perm_meaning.proofs.eval.state.State.behind_recover.Goals as goal
 
 pub returns-in-Gives : goal.returns-in-Gives

@@ -3,9 +3,9 @@ use Rattle.perm_meaning.specs.declared.eval.frames.Frame.TheVariants as frames
 use Rattle.perm_meaning.specs.declared.eval.state.Fate.{Fate}
 use Rattle.perm_meaning.specs.declared.eval.state.Fate.TheVariants as fates
 use Rattle.perm_meaning.specs.declared.eval.state.State.{State}
-use Rattle.perm_meaning.specs.Run.{below_frame, IsNext}
-use Rattle.perm_meaning.specs.State.{joined_at}
-use Rattle.perm_meaning.proofs.Run.BehindPars.{join-next, joined-same, right-stuck-next}
+use Rattle.perm_meaning.specs.Evaluator.Runs.{below_frame, IsNext}
+use Rattle.perm_meaning.specs.Evaluator.States.{joined_at}
+use Rattle.perm_meaning.proofs.Evaluator.Runs.BehindPars.{join-next, joined-same, right-stuck-next}
 use Rattle.perm_meaning.proofs.eval.state.State.behind_right.Goals as goal
 
 pub returns-in_default : goal.returns-in_default

@@ -1,8 +1,8 @@
 use Rattle.std.proofs.Common.{refl, subst}
 use Rattle.perm_tree.specs.CodeOf.{code_of}
 use Rattle.perm_tree.specs.InBody.{setting_at}
-use Rattle.perm_meaning.specs.Invoking.{call_in, MayInvoke}
-use Rattle.perm_meaning.proofs.Run.Calls.{may-call}
+use Rattle.perm_meaning.specs.Evaluator.CallStatements.{call_in, MayInvoke}
+use Rattle.perm_meaning.proofs.Evaluator.Runs.Calls.{may-call}
 use Rattle.perm_meaning.proofs.eval.state.State.call.Goals as goal
 
 pub returns-in_ok-go_into-in-Some : goal.returns-in_ok-go_into-in-Some

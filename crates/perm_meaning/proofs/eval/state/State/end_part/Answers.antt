@@ -1,7 +1,7 @@
 use Rattle.std.proofs.Common.{subst}
 use Rattle.perm_meaning.specs.declared.eval.ends.Ended.{Ended}
-use Rattle.perm_meaning.specs.Ends.{give_fate, return_fate, LosesGiven}
-use Rattle.perm_meaning.proofs.Run.PartEnds.{closes-next, gives-next, returns-next, turn-next, EndsWith}
+use Rattle.perm_meaning.specs.Evaluator.PartEnds.{give_fate, return_fate, LosesGiven}
+use Rattle.perm_meaning.proofs.Evaluator.Runs.PartEnds.{closes-next, gives-next, returns-next, turn-next, EndsWith}
 use Rattle.perm_meaning.proofs.eval.state.State.end_part.Goals as goal
 
 pub returns-in-Closes : goal.returns-in-Closes

@@ -1,9 +1,9 @@
 use Rattle.std.proofs.Common.{sym, subst}
 use Rattle.std.proofs.lemmas.Result.{IfOk-weaker}
 use Rattle.perm_meaning.specs.declared.eval.frames.Frame.{Frame}
-use Rattle.perm_meaning.specs.Run.{below_frame, IsNext}
-use Rattle.perm_meaning.specs.State.{final_of, BeginsRight}
-use Rattle.perm_meaning.proofs.Run.BehindPars.{begins-next}
+use Rattle.perm_meaning.specs.Evaluator.Runs.{below_frame, IsNext}
+use Rattle.perm_meaning.specs.Evaluator.States.{final_of, BeginsRight}
+use Rattle.perm_meaning.proofs.Evaluator.Runs.BehindPars.{begins-next}
 use Rattle.perm_meaning.proofs.eval.state.State.follow.Goals as goal
 
 pub returns-in-Call : goal.returns-in-Call

@@ -3,8 +3,8 @@ use Rattle.perm_tree.specs.declared.ast.Rhs.{Rhs}
 use Rattle.perm_tree.specs.declared.ast.StmtKind.TheVariants.{Assign}
 use Rattle.perm_meaning.specs.declared.eval.control.Control.{Control}
 use Rattle.perm_meaning.specs.declared.eval.state.Fate.TheVariants as fates
-use Rattle.perm_meaning.specs.Run.{unspent, IsNext}
-use Rattle.perm_meaning.proofs.Run.Blocks.{recover-next}
+use Rattle.perm_meaning.specs.Evaluator.Runs.{unspent, IsNext}
+use Rattle.perm_meaning.proofs.Evaluator.Runs.Blocks.{recover-next}
 use Rattle.perm_meaning.proofs.eval.state.State.on_assignment.Goals as goal
 
 pub returns-in_ok-on_recover-in-Recover : goal.returns-in_ok-on_recover-in-Recover

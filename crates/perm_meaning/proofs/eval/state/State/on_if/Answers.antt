@@ -2,10 +2,10 @@ use Rattle.std.proofs.Common.{sym, subst}
 use Rattle.perm_meaning.specs.declared.eval.control.Control.{Control}
 use Rattle.perm_meaning.specs.declared.eval.state.Fate.{Fate}
 use Rattle.perm_meaning.specs.declared.eval.state.Fate.TheVariants as fates
-use Rattle.perm_meaning.specs.Control.{TestsAs}
-use Rattle.perm_meaning.specs.Run.{unspent, IsNext}
-use Rattle.perm_meaning.specs.State.{test_fate}
-use Rattle.perm_meaning.proofs.Run.Blocks.{if-next}
+use Rattle.perm_meaning.specs.Evaluator.Control.{TestsAs}
+use Rattle.perm_meaning.specs.Evaluator.Runs.{unspent, IsNext}
+use Rattle.perm_meaning.specs.Evaluator.States.{test_fate}
+use Rattle.perm_meaning.proofs.Evaluator.Runs.Blocks.{if-next}
 use Rattle.perm_meaning.proofs.eval.state.State.on_if.Goals as goal
 
 pub returns : goal.returns

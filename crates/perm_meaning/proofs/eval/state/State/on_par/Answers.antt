@@ -1,8 +1,8 @@
 use Rattle.std.proofs.Common.{sym, subst}
 use Rattle.perm_meaning.specs.declared.eval.state.Fate.TheVariants as fates
 use Rattle.perm_meaning.specs.declared.eval.state.State.{State}
-use Rattle.perm_meaning.specs.Run.{unspent, IsNext}
-use Rattle.perm_meaning.proofs.Run.Blocks.{par-next, par-stops}
+use Rattle.perm_meaning.specs.Evaluator.Runs.{unspent, IsNext}
+use Rattle.perm_meaning.proofs.Evaluator.Runs.Blocks.{par-next, par-stops}
 use Rattle.perm_meaning.proofs.eval.state.State.on_par.Goals as goal
 
 pub returns-then-self-ge-MOST_DEPTH : goal.returns-then-self-ge-MOST_DEPTH

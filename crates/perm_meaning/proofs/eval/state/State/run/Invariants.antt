@@ -1,7 +1,7 @@
 use Rattle.perm_meaning.specs.declared.eval.state.Fate.TheVariants.{Goes}
 use Rattle.perm_meaning.specs.Meaning.{Result}
-use Rattle.perm_meaning.specs.Measure.{left_of_run}
-use Rattle.perm_meaning.specs.Run.{IsSmall, Means}
+use Rattle.perm_meaning.specs.Evaluator.Measure.{left_of_run}
+use Rattle.perm_meaning.specs.Evaluator.Runs.{IsSmall, Means}
 use Rattle.perm_meaning.proofs.eval.state.State.run.Given as goal
 
 abbrev pub invariant-loop-next : goal.invariant-loop-next

@@ -1,9 +1,9 @@
 use Rattle.std.proofs.Common.{refl, subst}
 use Rattle.perm_tree.specs.CodeOf.{code_of}
 use Rattle.perm_tree.specs.InBody.{setting_at}
-use Rattle.perm_meaning.specs.Simple.{simple_of}
-use Rattle.perm_meaning.specs.Stepping.{MayStep}
-use Rattle.perm_meaning.proofs.Run.Simple.{may-turn}
+use Rattle.perm_meaning.specs.Evaluator.SimpleStatements.{simple_of}
+use Rattle.perm_meaning.specs.Evaluator.SimpleSteps.{MayStep}
+use Rattle.perm_meaning.proofs.Evaluator.Runs.Simple.{may-turn}
 use Rattle.perm_meaning.proofs.eval.state.State.simple.Goals as goal
 
 pub returns-in-Some : goal.returns-in-Some

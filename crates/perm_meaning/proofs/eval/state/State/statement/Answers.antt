@@ -1,13 +1,13 @@
-use Rattle.std.proofs.Common.{◌≡◌, ◌-◌, Option, subst}
+use Rattle.std.proofs.Common.{◌-◌, Option, subst}
 use Rattle.perm_tree.specs.InBody.{setting_at}
 use Rattle.perm_meaning.specs.declared.eval.state.Fate.{Fate}
 use Rattle.perm_meaning.specs.declared.eval.state.Fate.TheVariants.{Goes}
 use Rattle.perm_meaning.specs.declared.eval.state.State.{State}
-use Rattle.perm_meaning.specs.Invoking.{call_in}
-use Rattle.perm_meaning.specs.Run.{IsNext, MayTurn}
-use Rattle.perm_meaning.specs.Simple.{simple_of}
-use Rattle.perm_meaning.proofs.Run.StatementsThere.{turn-out}
-use Rattle.perm_meaning.proofs.Run.Turns.{has-turned, is-left, unspent-is}
+use Rattle.perm_meaning.specs.Evaluator.CallStatements.{call_in}
+use Rattle.perm_meaning.specs.Evaluator.Runs.{IsNext, MayTurn}
+use Rattle.perm_meaning.specs.Evaluator.SimpleStatements.{simple_of}
+use Rattle.perm_meaning.proofs.Evaluator.Runs.StatementsThere.{turn-out}
+use Rattle.perm_meaning.proofs.Evaluator.Runs.Turns.{has-turned, is-left, unspent-is}
 use Rattle.perm_meaning.proofs.eval.state.State.statement.Goals as goal
 
 pub returns-then-self-eq0 : goal.returns-then-self-eq0

@@ -1,7 +1,7 @@
 use Rattle.std.proofs.Common.{◌≡◌, ◌∙◌, ap}
 use Rattle.perm_tree.specs.Places.{Listing}
-use Rattle.perm_meaning.proofs.Ends.{stmt-gone}
-use Rattle.perm_meaning.proofs.Run.StatementsThere.{stmts-there}
+use Rattle.perm_meaning.proofs.Evaluator.PartEnds.{stmt-gone}
+use Rattle.perm_meaning.proofs.Evaluator.Runs.StatementsThere.{stmts-there}
 use Rattle.perm_meaning.proofs.eval.state.State.turn_at.Goals as goal
 
 pub returns-in-None : goal.returns-in-None

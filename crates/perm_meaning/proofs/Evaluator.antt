@@ -1,0 +1,27 @@
+-- The plain evaluator does what the meaning says.
+pub mod Asks
+pub mod BegunCalls
+pub mod CallNames
+pub mod CallStatements
+pub mod CallTurns
+pub mod Control
+pub mod ControlTurns
+pub mod Ending
+pub mod FrameEnds
+pub mod Joins
+pub mod Measure
+pub mod NewNames
+pub mod NewObjects
+pub mod NumberedHeap
+pub mod NumberedMaps
+pub mod Operands
+pub mod PartEnds
+pub mod Parts
+pub mod Routines
+pub mod Runs
+pub mod States
+pub mod Ties
+pub mod UnbornNames
+pub mod Unfolding
+pub mod Waits
+pub mod Writes

@@ -1,0 +1,27 @@
+-- The relations of the plain evaluator: how its values, its heap and its states stand for the meaning's.
+pub mod Asks
+pub mod BegunCalls
+pub mod CallStatements
+pub mod Control
+pub mod Fates
+pub mod Frames
+pub mod Joins
+pub mod Measure
+pub mod NewNames
+pub mod NumberedHeap
+pub mod NumberedValues
+pub mod Opening
+pub mod Operands
+pub mod PartEnds
+pub mod Parts
+pub mod Popped
+pub mod Runs
+pub mod SimpleStatements
+pub mod SimpleSteps
+pub mod States
+pub mod Ties
+pub mod ToldAnswers
+pub mod UnbornNames
+pub mod Waits
+pub mod WholeCode
+pub mod Writes
