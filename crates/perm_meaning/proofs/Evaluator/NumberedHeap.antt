@@ -1,7 +1,8 @@
 -- Numbered objects hold what named ones hold.
-use Rattle.std.proofs.Common.{◌≡◌, ◌∙◌, ℕ, zero, suc, ◌<◌, Bool, true, false, List, [], ◌∷◌, length, Some, refl, sym, ap, subst, arith, ◌++◌, ◌+◌, inl, inr, ◌⊎◌}
-use Rattle.std.specs.Prelude.{map, nat_eq, slice_get, slice_set, option_map}
-use Rattle.std.proofs.lemmas.Option.{slice_get-map}
+use Rattle.std.proofs.Common.{◌≡◌, ◌∙◌, ℕ, zero, suc, ◌<◌, Bool, true, false, List, [], ◌∷◌, length, Option, None, Some, Bor, refl, sym, ap, subst, arith, ◌++◌, ◌+◌, inl, inr, ◌⊎◌}
+use Rattle.std.specs.Prelude.{map, nat_eq, slice_get, slice_set, option_copied, option_map}
+use Rattle.std.specs.Slice.{IsItemAt}
+use Rattle.std.proofs.lemmas.Option.{slice_get-map, slice_get_past, slice_get_read}
 use Rattle.std.proofs.lemmas.Bool.Decides.{nat_tests}
 use Rattle.perm_tree.specs.declared.ast.Shape.{Shape}
 use Rattle.perm_tree.proofs.HeldStatements.{element-there}
@@ -27,6 +28,11 @@ pub within : {A : Type 0} (xs : List A) (i : ℕ) (x : A) → slice_get xs i ≡
 within [] i x e = none-some e
 within (z ∷ xs) zero x e = omega arith
 within (z ∷ xs) (suc i) x e = omega (arith, within xs i x e)
+
+-- a copy of what is lent at a place is what stands there
+pub copied-item : {A : Type 0} (xs slice : List A) (i : ℕ) (lent : Option (Bor A)) (copy : Option A) → slice ≡ xs → IsItemAt slice i lent → copy ≡ option_copied lent → copy ≡ slice_get xs i
+copied-item xs slice i None copy same at is = is ∙ sym (slice_get_past slice i (grind (arith, nat_tests))) ∙ ap (λ l. slice_get l i) same
+copied-item xs slice i (Some x) copy same at is = is ∙ sym (slice_get_read slice (length slice) i x.now refl (grind (arith, nat_tests)) at.1) ∙ ap (λ l. slice_get l i) same
 
 -- setting changes no length
 pub set-length : {A : Type 0} (xs : List A) (i : ℕ) (y : A) → length (slice_set xs i y) ≡ length xs
