@@ -6,7 +6,6 @@ pub mod CallStatements
 pub mod CallTurns
 pub mod Control
 pub mod ControlTurns
-pub mod Ending
 pub mod FrameEnds
 pub mod Joins
 pub mod Measure

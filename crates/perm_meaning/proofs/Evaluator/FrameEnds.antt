@@ -19,7 +19,7 @@ use Rattle.perm_meaning.specs.Custody.{merged, writes_l, writes_r}
 use Rattle.perm_meaning.specs.Expressions.{assign, assign_into, clear_all, tagged}
 use Rattle.perm_meaning.specs.Evaluator.Frames.{code_at, failure_by, final_by, method_behind, AllStand, NoneStands, OneStands, AmountsTo, StandsFor, WaitsForCall, WaitsForLeft, WaitsForRight}
 use Rattle.perm_meaning.specs.Machine.{Failure, join_final}
-use Rattle.perm_meaning.specs.Meaning.{Moment, Result, Well, Gave, Handed, Fails, Full, Stuck, after_join, on_final, right_of, set_vars, then_do}
+use Rattle.perm_meaning.specs.Meaning.{Moment, Result, Well, Gave, Handed, Fails, Stuck, after_join, on_final, right_of, set_vars, then_do}
 use Rattle.perm_meaning.specs.Names.{after_par}
 use Rattle.perm_meaning.specs.NamedHeap.{Final, Heap, Held}
 use Rattle.perm_meaning.specs.Evaluator.NumberedValues.{all_by, Names}
@@ -28,7 +28,7 @@ use Rattle.perm_meaning.specs.Evaluator.Ties.{moment_by}
 use Rattle.perm_meaning.specs.Evaluator.Waits.{Waiting, ForBlock, ForRecover, ForCall, ForLeft, ForRight, after_waiting, resumed}
 use Rattle.perm_meaning.specs.Evaluator.WholeCode.{whole}
 use Rattle.perm_meaning.specs.Evaluator.Writes.{par_at}
-use Rattle.perm_meaning.proofs.Evaluator.Waits.{resumed-full, resumed-stuck}
+use Rattle.perm_meaning.proofs.Evaluator.Waits.{resumed-stuck}
 
 module _ (u : Tables) (fits : ℕ → Bool) (names : Names) where
   -- ---------- what frames stand for ----------
@@ -187,14 +187,3 @@ module _ (u : Tables) (fits : ℕ → Bool) (names : Names) where
         ends
 
   -- ---------- the end of a run ----------
-  -- where no frame stands an end is the result
-  pub end-of-run : (m : ℕ) (ws : List Waiting) (x r : Result) → AmountsTo u fits names m [] ws x r → x ≡ r
-  end-of-run m ws x r a = ap (λ ws. resumed (code_of u) fits ws x) (sym (nothing a.stand)) ∙ a.is
-
-  -- a run that is stuck within is stuck, whatever waits
-  pub stuck-within : (m : ℕ) (fs : List Frame) (ws : List Waiting) (r : Result) → AmountsTo u fits names m fs ws Stuck r → Stuck ≡ r
-  stuck-within m fs ws r a = sym (resumed-stuck (code_of u) fits ws) ∙ a.is
-
-  -- a run that fills the heap within fills it, whatever waits
-  pub full-within : (m : ℕ) (fs : List Frame) (ws : List Waiting) (r : Result) → AmountsTo u fits names m fs ws Full r → Full ≡ r
-  full-within m fs ws r a = sym (resumed-full (code_of u) fits ws) ∙ a.is

@@ -7,23 +7,17 @@ use Rattle.perm_tree.specs.declared.ast.FieldDecl.{FieldDecl}
 use Rattle.perm_tree.specs.declared.ast.Ident.{Ident}
 use Rattle.perm_tree.specs.declared.ast.Span.{Span}
 use Rattle.perm_tree.specs.declared.ast.Stmt.{Stmt}
-use Rattle.perm_tree.specs.Code.{Argument, Code, Give, Return, UnitCode}
+use Rattle.perm_tree.specs.Code.{Code, Give, UnitCode}
 use Rattle.perm_tree.specs.CodeNames.{Setting, own_vars, var_at}
-use Rattle.perm_tree.specs.InBody.{setting_at}
 use Rattle.perm_tree.specs.Scopes.{declared_at}
-use Rattle.perm_tree.specs.UnitTables.{Tables}
-use Rattle.perm_meaning.specs.declared.eval.ends.Ended.TheVariants.{Gives, Returns}
-use Rattle.perm_meaning.specs.declared.eval.parts.Part.TheVariants as parts
+use Rattle.perm_meaning.specs.declared.eval.ends.Ended.TheVariants.{Gives}
 use Rattle.perm_meaning.specs.declared.eval.values.Given.{Given}
 use Rattle.perm_meaning.specs.declared.eval.values.Value.{Value}
 use Rattle.perm_meaning.specs.Evaluator.PartEnds.{ended}
-use Rattle.perm_meaning.specs.Evaluator.Parts.{own_in}
-use Rattle.perm_meaning.specs.Expressions.{tagged, clear, clear_all, look_up, value_of}
-use Rattle.perm_meaning.specs.Meaning.{Moment, Result, Gave, Handed, does, on_value, set_vars}
+use Rattle.perm_meaning.specs.Expressions.{tagged, clear, clear_all, look_up}
+use Rattle.perm_meaning.specs.Meaning.{Moment, Result, Handed, does, on_value, set_vars}
 use Rattle.perm_meaning.specs.NamedHeap.{Heap, Held, Own}
 use Rattle.perm_meaning.specs.Evaluator.NumberedValues.{all_by, given_by, Names}
-use Rattle.perm_meaning.specs.Evaluator.Parts.{first_if, second_if}
-use Rattle.perm_meaning.specs.Values.{Eval}
 
 -- ---------- own variables ----------
 -- first some variables lose their values, then others
@@ -72,14 +66,6 @@ own-step k is at d vs ws all lt e h =
 pub own-done : (k : Setting) (is : List ℕ) (at : ℕ) (vs all : List Held) → length is ≤ at → clear_all tagged vs (own_vars k (drop at is)) ≡ all → vs ≡ all
 own-done k is at vs all le h = ap (clear_all tagged vs) (sym (own-none k is at le)) ∙ h
 
--- those of the first block of a statement that is there
-pub own-first : (u : Tables) (m i : ℕ) (s : Stmt) → slice_get u.program.stmts i ≡ Some s → own_in u m (parts.First i) ≡ own_vars (setting_at u m) (first_if (Some s))
-own-first u m i s e = ap (λ o. own_vars (setting_at u m) (first_if o)) e
-
--- those of its second block
-pub own-second : (u : Tables) (m i : ℕ) (s : Stmt) → slice_get u.program.stmts i ≡ Some s → own_in u m (parts.Second i) ≡ own_vars (setting_at u m) (second_if (Some s))
-own-second u m i s e = ap (λ o. own_vars (setting_at u m) (second_if o)) e
-
 -- ---------- ends that are turns ----------
 module _ (u : UnitCode) (fits : ℕ → Bool) (again : Code → Moment → Result) (names : Names) (l : Own) (h : Heap) (g : Given) (at : Span) where
   -- a recover block gives the value of a variable
@@ -91,14 +77,6 @@ module _ (u : UnitCode) (fits : ℕ → Bool) (again : Code → Moment → Resul
       let value-now : look_up tagged l.vars w ≡ given_by names g = ap (λ (vs : List Held). look_up tagged vs w) same ∙ sym value in
       let vars-now : clear tagged l.vars w ≡ all_by names new = ap (λ (vs : List Held). clear tagged vs w) same ∙ sym vars in
       λ j. on_value (value-now j) at m (λ v. Handed x v (set_vars m (vars-now j)))
-
-  -- a method gives the value of an argument back
-  pub returns-as : (t : ℕ) (a : Argument) (old new : List (Option Value)) → l.vars ≡ all_by names old → given_by names g ≡ value_of tagged a (all_by names old)
-      → does u fits again (Return at a) (record { turns = t; own = l; heap = h }) ≡ ended names new (Returns g at) (record { turns = t; own = l; heap = h })
-  returns-as zero a old new same value = refl
-  returns-as (suc t) a old new same value =
-      let m : Moment = record { turns = t; own = l; heap = h } in
-      ap (λ (e : Eval Held). on_value e at m (λ v. Gave v m)) (ap (value_of tagged a) same ∙ sym value)
 
 -- ---------- statements that are read ----------
 -- a statement that is read stands there

@@ -2,7 +2,6 @@
 use Rattle.std.proofs.Common.{◌≡◌, ◌∙◌, ℕ, zero, suc, List, [], ◌∷◌, drop, Option, Some, None, refl, sym, ap}
 use Rattle.std.specs.Prelude.{slice_get}
 use Rattle.perm_tree.specs.declared.ast.Block.{Block}
-use Rattle.perm_tree.specs.declared.ast.Call.{Call}
 use Rattle.perm_tree.specs.declared.ast.Ident.{Ident}
 use Rattle.perm_tree.specs.declared.ast.Rhs.{Rhs}
 use Rattle.perm_tree.specs.declared.ast.Rhs.TheVariants as rhs
@@ -12,7 +11,7 @@ use Rattle.perm_tree.specs.declared.ast.StmtKind.{StmtKind}
 use Rattle.perm_tree.specs.declared.ast.StmtKind.TheVariants as kinds
 use Rattle.perm_tree.specs.declared.ast.Ty.{Ty}
 use Rattle.perm_tree.specs.Code.{Instruction, Code, End, Do, If, While, Par, Recover}
-use Rattle.perm_tree.specs.CodeNames.{Setting, call, term_at, var_at, own_vars, tied_before}
+use Rattle.perm_tree.specs.CodeNames.{Setting, term_at, var_at, own_vars, tied_before}
 use Rattle.perm_tree.specs.CodeOf.{assignment, block_code, codes_of, kind_code, stmt_code}
 use Rattle.perm_tree.specs.InBody.{setting_at}
 use Rattle.perm_tree.specs.Places.{IsPlaced}
@@ -85,14 +84,6 @@ module _ (u : Tables) (m i : ℕ) (s : Stmt) (rest : Code) (placed : IsPlaced u.
   -- a simple statement that is no call
   pub code-simple : (j : Instruction) → simple_of (setting_at u m) s.kind ≡ Some j → stmt_code (setting_at u m) i rest ≡ Do s.span j rest
   code-simple j e = by-kind s.kind refl ∙ kind-simple (setting_at u m) (codes_of (setting_at u m)) s s.kind j rest e
-
-  -- a call
-  pub code-call : (c : Call) → s.kind ≡ kinds.Call c → stmt_code (setting_at u m) i rest ≡ Do s.span (call (setting_at u m) None c) rest
-  code-call c e = by-kind (kinds.Call c) e
-
-  -- a call whose result is assigned
-  pub code-call-into : (t : Option Ty) (x : Ident) (c : Call) → s.kind ≡ kinds.Assign t x (rhs.Call c) → stmt_code (setting_at u m) i rest ≡ Do s.span (call (setting_at u m) (Some (var_at (setting_at u m) x)) c) rest
-  code-call-into t x c e = by-kind (kinds.Assign t x (rhs.Call c)) e
 
   -- an `if`
   pub code-if : (n : ℕ) (a : Block) (b : Option Block) → s.kind ≡ kinds.If n a b → stmt_code (setting_at u m) i rest

@@ -26,7 +26,7 @@ use Rattle.perm_meaning.specs.NamedHeap.{Final, Heap, Held}
 use Rattle.perm_meaning.specs.Evaluator.Joins.{IsJoined}
 use Rattle.perm_meaning.specs.Evaluator.NewNames.{AreNew}
 use Rattle.perm_meaning.specs.Evaluator.NumberedValues.{held_by, Names}
-use Rattle.perm_meaning.specs.Evaluator.States.{behind_block, behind_call, BeginsRight, comes_to, final_of, joined_at, joined_fate, left_call, right_at, Clears, ClearsAndTakes, Follows, IsEnd, Takes}
+use Rattle.perm_meaning.specs.Evaluator.States.{behind_block, behind_call, comes_to, final_of, joined_at, joined_fate, left_call, right_at, Clears, ClearsAndTakes, Follows, IsEnd, Takes}
 use Rattle.perm_meaning.specs.Evaluator.Ties.{moment_by}
 use Rattle.perm_meaning.proofs.Evaluator.FrameEnds.{innermost, block-closes, block-fails, call-fails, call-gives, join-fails, join-goes, left-ends, left-stuck, recover-fails, recover-gives, right-stuck}
 use Rattle.perm_meaning.proofs.Leads.{some-inj, none-some}
@@ -67,14 +67,6 @@ left-follows u p old f x e fits names mark h w ws r new ends =
 pub left-sticks : (u : Tables) (p : Parent) (old new : State) (f : Fate) → IsEnd f → final_of old f ≡ None → Follows u (frames.Left p) old f new fates.Sticks
 left-sticks u p old new f end e fits names mark h w ws r news ends =
     (mark, w ∷ ws, news, left-stuck u fits names old.own.«method» old.control.frames w ws r p (comes_to u fits names mark h old f) (final-none u fits names mark h old f end e) ends)
-
--- both of them
-pub behind-left : (u : Tables) (p : Parent) (old new : State) (f y : Fate) → IsEnd f → BeginsRight p old (final_of old f) new y → Follows u (frames.Left p) old f new y
-behind-left u p old new f y end = go (final_of old f) refl
-  where
-    go : (o : Option ending.Final) → final_of old f ≡ o → BeginsRight p old o new y → Follows u (frames.Left p) old f new y
-    go None e b = subst (λ y. Follows u (frames.Left p) old f new y) (sym b.0) (left-sticks u p old new f end e)
-    go (Some x) e b = subst (λ y. Follows u (frames.Left p) old f new y) (sym b.0) (subst (λ new. Follows u (frames.Left p) old f new fates.Goes) (sym b.1) (left-follows u p old f x e))
 
 -- ---------- behind a par ----------
 module _ (u : Tables) (p : Parent) (left : ending.Final) (old : State) (f : Fate) where

@@ -4,5 +4,4 @@ pub mod Answering
 pub mod Marks
 pub mod Stepping
 pub mod Opening
-pub mod Outer
 pub mod Running

@@ -1,19 +1,18 @@
 -- One step of code, where other code waits for its end.
-use Rattle.std.proofs.Common.{◌≡◌, ◌∙◌, ℕ, suc, ◌-◌, ◌≤◌, Bool, true, false, List, [], ◌∷◌, Option, Some, None, refl, sym, ap}
+use Rattle.std.proofs.Common.{◌≡◌, ◌∙◌, ℕ, suc, ◌≤◌, Bool, true, false, List, [], ◌∷◌, Some, None, refl, sym, ap}
 use Rattle.std.specs.Prelude.{ℤ, nat_lt, slice_get}
-use Rattle.perm_meaning.specs.Custody.{merged, writes_l, writes_r}
 use Rattle.perm_tree.specs.declared.ast.Span.{Span}
 use Rattle.perm_tree.specs.declared.errors.TrapKind.{TrapKind}
 use Rattle.perm_tree.specs.declared.errors.TrapKind.TheVariants.{StackOverflow}
 use Rattle.perm_tree.specs.Code.{Term, Argument, Instruction, Code, End, Give, Return, Do, If, While, Par, Recover, Routine, UnitCode}
 use Rattle.perm_meaning.specs.Values.{Eval, Gives, Traps, Mistyped, Truth}
-use Rattle.perm_meaning.specs.Expressions.{tagged, assign, assign_into, clear, clear_all, look_up, eval, value_of}
+use Rattle.perm_meaning.specs.Expressions.{tagged, assign, clear, clear_all, look_up, eval, value_of}
 use Rattle.perm_meaning.specs.Names.{Mark}
-use Rattle.perm_meaning.specs.Machine.{Blocks, Failure, Trapped, NoTurns, Fine, Failed, join_final}
-use Rattle.perm_meaning.specs.Effects.{choose, Calling, Act, GoesOn, Calls, Halts, Does, Sticks, depth_limit, effect}
+use Rattle.perm_meaning.specs.Machine.{Trapped, NoTurns}
+use Rattle.perm_meaning.specs.Effects.{choose, Calling, Act, Calls, Halts, Does, Sticks, depth_limit, effect}
 use Rattle.perm_meaning.specs.Turns.{blocks}
-use Rattle.perm_meaning.specs.NamedHeap.{Final, Heap, Held, Op, Own, marks, find, after}
-use Rattle.perm_meaning.specs.Steps.{Answer, Found, Refused, Missing}
+use Rattle.perm_meaning.specs.NamedHeap.{Heap, Held, Op, Own, marks, find, after}
+use Rattle.perm_meaning.specs.Steps.{Answer, Found}
 use Rattle.perm_meaning.specs.Meaning as meaning
 use Rattle.perm_meaning.specs.Meaning.{Moment, Result, Well, Gave, Handed, Fails, Full, Stuck, left_of, right_of, set_vars, then_do, close, recovered, on_test, on_value, after_join, par_of, perform, answered, doing, does}
 use Rattle.perm_meaning.specs.Evaluator.Waits.{Waiting, ForBlock, ForRecover, ForCall, ForLeft, ForRight, after_waiting, resumed}
@@ -55,58 +54,10 @@ module _ (u : UnitCode) (fits : ℕ → Bool) where
   resumed-full [] = refl
   resumed-full (w ∷ ws) = ap (resumed u fits ws) (after-full w) ∙ resumed-full ws
 
-  -- a failure leaves a block
-  pub fails-block : (ws : List Waiting) (own : List ℕ) (rest : Code) (e : Failure) (t : ℕ) (p : List ℤ) (h : Heap) → resumed u fits (ForBlock own rest ∷ ws) (Fails e t p h) ≡ resumed u fits ws (Fails e t p h)
-  fails-block ws own rest e t p h = refl
-
-  -- a recover block too
-  pub fails-recover : (ws : List Waiting) (own : List ℕ) (rest : Code) (e : Failure) (t : ℕ) (p : List ℤ) (h : Heap) → resumed u fits (ForRecover own rest ∷ ws) (Fails e t p h) ≡ resumed u fits ws (Fails e t p h)
-  fails-recover ws own rest e t p h = refl
-
-  -- and a call
-  pub fails-call : (ws : List Waiting) (l : Own) (into : Option ℕ) (rest : Code) (e : Failure) (t : ℕ) (p : List ℤ) (h : Heap)
-      → resumed u fits (ForCall l into rest ∷ ws) (Fails e t p h) ≡ resumed u fits ws (Fails e t p h)
-  fails-call ws l into rest e t p h = refl
-
-  -- where a left side has failed the right one runs
-  pub fails-left : (ws : List Waiting) (p : Blocks) (m : Moment) (rest : Code) (e : Failure) (t : ℕ) (out : List ℤ) (h : Heap)
-      → resumed u fits (ForLeft p m rest ∷ ws) (Fails e t out h) ≡ resumed u fits (ForRight p m (Failed e t out) rest ∷ ws) (whole u fits p.right (right_of m h))
-  fails-left ws p m rest e t out h = refl
-
-  -- where a right side has failed the par ends
-  pub fails-right : (ws : List Waiting) (p : Blocks) (m : Moment) (x : Final) (rest : Code) (e : Failure) (t : ℕ) (out : List ℤ) (h : Heap)
-      → resumed u fits (ForRight p m x rest ∷ ws) (Fails e t out h)
-      ≡ resumed u fits ws (then_do (after_join m (join_final (merged (writes_l p) (writes_r p)) m.own.vars m.own.printed x (Failed e t out)) h) (whole u fits rest))
-  fails-right ws p m x rest e t out h = refl
-
   -- ---------- code at its end ----------
   -- code at its end is done
   pub end-is : (m : Moment) → whole u fits End m ≡ Well m
   end-is m = unfolds u fits End m
-
-  -- behind a block its own variables have lost their values
-  pub ends-block : (ws : List Waiting) (own : List ℕ) (rest : Code) (m : Moment)
-      → resumed u fits (ForBlock own rest ∷ ws) (whole u fits End m) ≡ resumed u fits ws (whole u fits rest (set_vars m (clear_all tagged m.own.vars own)))
-  ends-block ws own rest m = ap (resumed u fits (ForBlock own rest ∷ ws)) (end-is m)
-
-  -- the right side runs behind the left one
-  pub ends-left : (ws : List Waiting) (p : Blocks) (m : Moment) (rest : Code) (z : Moment)
-      → resumed u fits (ForLeft p m rest ∷ ws) (whole u fits End z) ≡ resumed u fits (ForRight p m (Fine z.own.vars z.turns z.own.printed) rest ∷ ws) (whole u fits p.right (right_of m z.heap))
-  ends-left ws p m rest z = ap (resumed u fits (ForLeft p m rest ∷ ws)) (end-is z)
-
-  -- the par ends behind the right side
-  pub ends-right : (ws : List Waiting) (p : Blocks) (m : Moment) (x : Final) (rest : Code) (z : Moment)
-      → resumed u fits (ForRight p m x rest ∷ ws) (whole u fits End z)
-      ≡ resumed u fits ws (then_do (after_join m (join_final (merged (writes_l p) (writes_r p)) m.own.vars m.own.printed x (Fine z.own.vars z.turns z.own.printed)) z.heap) (whole u fits rest))
-  ends-right ws p m x rest z = ap (resumed u fits (ForRight p m x rest ∷ ws)) (end-is z)
-
-  -- code at its end gives nothing to a recover block
-  pub ends-recover : (ws : List Waiting) (own : List ℕ) (rest : Code) (m : Moment) → resumed u fits (ForRecover own rest ∷ ws) (whole u fits End m) ≡ Stuck
-  ends-recover ws own rest m = ap (resumed u fits (ForRecover own rest ∷ ws)) (end-is m) ∙ resumed-stuck ws
-
-  -- nor to a call
-  pub ends-call : (ws : List Waiting) (l : Own) (into : Option ℕ) (rest : Code) (m : Moment) → resumed u fits (ForCall l into rest ∷ ws) (whole u fits End m) ≡ Stuck
-  ends-call ws l into rest m = ap (resumed u fits (ForCall l into rest ∷ ws)) (end-is m) ∙ resumed-stuck ws
 
   -- a step is due
   abbrev pub IsDue : Code → Type 0
@@ -162,14 +113,6 @@ module _ (u : UnitCode) (fits : ℕ → Bool) where
           ∙ ap (λ x. resumed u fits ws (then_do (doing u fits (whole u fits) at x spent) (whole u fits rest))) asks
           ∙ ap (λ x. resumed u fits ws (then_do (answered u fits (whole u fits) x o at told spent) (whole u fits rest))) e
 
-      -- the heap has no room
-      pub simple-refused : find fits o h ≡ Refused → resumed u fits ws (whole u fits (Do at i rest) before) ≡ Full
-      simple-refused e = by-answer Refused e ∙ resumed-full ws
-
-      -- a field isn't there
-      pub simple-missing : find fits o h ≡ Missing → resumed u fits ws (whole u fits (Do at i rest) before) ≡ Stuck
-      simple-missing e = by-answer Missing e ∙ resumed-stuck ws
-
       module _ (v : Held) (found : find fits o h ≡ Found v) where
         by-act : (a : Act Held Mark) → told v ≡ a
             → resumed u fits ws (whole u fits (Do at i rest) before)
@@ -177,10 +120,6 @@ module _ (u : UnitCode) (fits : ℕ → Bool) where
         by-act a e =
             by-answer (Found v) found
             ∙ ap (λ x. resumed u fits ws (then_do (perform u fits (whole u fits) at (record { turns = t; own = l; heap = after u fits o h }) x) (whole u fits rest))) e
-
-        -- it goes on
-        pub simple-goes : (k : Own) → told v ≡ GoesOn k → resumed u fits ws (whole u fits (Do at i rest) before) ≡ resumed u fits ws (whole u fits rest (record { turns = t; own = k; heap = after u fits o h }))
-        simple-goes k e = by-act (GoesOn k) e
 
         -- it traps
         pub simple-traps : (k : TrapKind) → told v ≡ Halts k → resumed u fits ws (whole u fits (Do at i rest) before) ≡ resumed u fits ws (Fails (Trapped k at) t l.printed (after u fits o h))
@@ -289,20 +228,9 @@ module _ (u : UnitCode) (fits : ℕ → Bool) where
     give-is own rest at w x v q =
         ap (resumed u fits (ForRecover own rest ∷ ws)) (unfolds u fits (Give at w x) before ∙ ap (λ e. on_value e at spent (λ v. Handed x v (set_vars spent (clear tagged l.vars w)))) q)
 
-    -- or there is none
-    pub give-sticks : (at : Span) (w x : ℕ) → look_up tagged l.vars w ≡ Mistyped → resumed u fits ws (whole u fits (Give at w x) before) ≡ Stuck
-    give-sticks at w x q =
-        ap (resumed u fits ws) (unfolds u fits (Give at w x) before ∙ ap (λ e. on_value e at spent (λ v. Handed x v (set_vars spent (clear tagged l.vars w)))) q) ∙ resumed-stuck ws
-
     -- a method gives a value back
     pub return-is : (at : Span) (a : Argument) (e : Eval Held) → value_of tagged a l.vars ≡ e → resumed u fits ws (whole u fits (Return at a) before) ≡ resumed u fits ws (on_value e at spent (λ v. Gave v spent))
     return-is at a e q = ap (resumed u fits ws) (unfolds u fits (Return at a) before ∙ ap (λ e. on_value e at spent (λ v. Gave v spent)) q)
-
-    -- the caller takes it
-    pub return-to-call : (caller : Own) (into : Option ℕ) (rest : Code) (v : Held)
-        → resumed u fits (ForCall caller into rest ∷ ws) (Gave v spent)
-        ≡ resumed u fits ws (whole u fits rest (record spent { own = record l { vars = assign_into caller.vars into v; routine = caller.routine; depth = l.depth - 1 } }))
-    return-to-call caller into rest v = refl
 
 -- what the run of a unit comes to: its opening is followed by the body of `Run`, for which nothing waits
 pub outcome-of : (u : UnitCode) (limit : ℕ) (input : List ℤ) (turns : ℕ) (r : Routine) → slice_get u.routines u.run ≡ Some r → opening_need u input ≤ limit

@@ -9,7 +9,7 @@ use Rattle.perm_tree.specs.declared.ast.Rhs.TheVariants as rhs
 use Rattle.perm_tree.specs.declared.ast.Stmt.{Stmt}
 use Rattle.perm_tree.specs.declared.ast.StmtKind.{StmtKind}
 use Rattle.perm_tree.specs.declared.ast.StmtKind.TheVariants as kinds
-use Rattle.perm_tree.specs.Code.{Code, End, Give, LoadField, LoadLength, Par}
+use Rattle.perm_tree.specs.Code.{Code, End, Give, LoadField, LoadLength}
 use Rattle.perm_tree.specs.CodeNames.{Setting, field_at, own_vars, ty_at, var_at}
 use Rattle.perm_tree.specs.CodeOf.{assignment, block_code, codes_of, kind_code, stmt_code}
 use Rattle.perm_tree.specs.InBody.{setting_at}
@@ -27,7 +27,6 @@ use Rattle.perm_meaning.specs.Machine.{Blocks}
 use Rattle.perm_meaning.specs.Evaluator.Parts.{code_from, first_end, first_end_if, first_if, first_stmts, recover_stmts, second_if, second_stmts, stmts_in}
 use Rattle.perm_meaning.specs.Turns.{blocks}
 use Rattle.perm_meaning.specs.Evaluator.Writes.{from_block, kind_writes, par_at, rhs_consumes, rhs_gives, stmt_writes, stmts_write}
-use Rattle.perm_meaning.proofs.Evaluator.Parts.{code-par}
 
 -- ---------- places go down ----------
 -- one more than the highest of some places
@@ -198,12 +197,6 @@ par-at u m at s a b here par =
     let ends : first_end_if k (Some s) ≡ End = ap (first_end k) par in
     (λ i. blocks (own_vars k (first_if (sym here i))) (code_from u m (parts.First at) 0) (own_vars k (second_if (sym here i))) (code_from u m (parts.Second at) 0))
     ∙ (λ i. blocks (own_vars k (stmts_in u m (parts.First at))) (block_code k (stmts_in u m (parts.First at)) ((ap (first_end_if k) here ∙ ends) i)) (own_vars k (stmts_in u m (parts.Second at))) (block_code k (stmts_in u m (parts.Second at)) End))
-
--- the code of a par goes into the blocks of its place
-pub code-par-at : (u : Tables) (m at : ℕ) (s : Stmt) (a b : Block) (rest : Code) → IsPlaced u.program → slice_get u.program.stmts at ≡ Some s → s.kind ≡ kinds.Par a b
-    → stmt_code (setting_at u m) at rest ≡ Par s.head (par_at u m at).own_l (par_at u m at).left (par_at u m at).own_r (par_at u m at).right rest
-code-par-at u m at s a b rest placed here par =
-    code-par u m at s rest placed here a b par ∙ ap (λ (p : Blocks). Par s.head p.own_l p.left p.own_r p.right rest) (par-at u m at s a b here par)
 
 -- its left block is the code of its first part
 pub left-is : (u : Tables) (m at : ℕ) (s : Stmt) (a b : Block) → slice_get u.program.stmts at ≡ Some s → s.kind ≡ kinds.Par a b → (par_at u m at).left ≡ code_from u m (parts.First at) 0

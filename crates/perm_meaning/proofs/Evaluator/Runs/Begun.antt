@@ -1,5 +1,5 @@
 -- A run begins as the meaning says.
-use Rattle.std.proofs.Common.{◌≡◌, ◌∙◌, ℕ, ◌+◌, ◌≤◌, ◌<◌, true, false, List, [], ◌∷◌, ◌++◌, length, Some, None, sym, ap, subst, arith}
+use Rattle.std.proofs.Common.{◌≡◌, ◌∙◌, ℕ, ◌+◌, ◌≤◌, true, List, [], ◌∷◌, ◌++◌, length, Some, None, sym, ap, subst, arith}
 use Rattle.std.specs.Prelude.{ℤ, map, nat_le, slice_get, if◌then◌else◌}
 use Rattle.std.proofs.lemmas.List.{length-map}
 use Rattle.std.proofs.lemmas.Bool.Decides.{nat_tests}
@@ -38,9 +38,6 @@ use Rattle.perm_meaning.proofs.Evaluator.Ties.Opening.{opening-below, opening-ti
 use Rattle.perm_meaning.proofs.Evaluator.Waits.{outcome-of}
 
 -- ---------- the heap ----------
--- where the input array has no room, both objects have none
-pub no-room : (a b limit : ℕ) → nat_le (0 + size a) limit ≡ false → limit < size a + size b
-no-room a b limit e = grind (arith, nat_tests)
 
 -- the heap has both objects, if both have room
 pub has-both : (u : Tables) (input : List ℤ) (limit : ℕ) (array main : List Value) (s : Stored)

@@ -5,7 +5,6 @@ use Rattle.std.proofs.lemmas.List.{length-append}
 use Rattle.perm_tree.specs.declared.ast.Shape.{Shape}
 use Rattle.perm_tree.specs.declared.ast.Shape.TheVariants.{Class, Array}
 use Rattle.perm_tree.specs.Code.{Routine, UnitCode}
-use Rattle.perm_meaning.specs.declared.eval.own.Own.{Own}
 use Rattle.perm_meaning.specs.declared.eval.values.Value.{Value}
 use Rattle.perm_meaning.specs.declared.eval.values.Value.TheVariants as held
 use Rattle.perm_meaning.specs.Effects.{first_vars}
@@ -13,9 +12,9 @@ use Rattle.perm_meaning.specs.Expressions.{tagged}
 use Rattle.perm_meaning.specs.Names.{input_name, root_mark, root_name, same_name, Name, Path}
 use Rattle.perm_meaning.specs.Evaluator.NumberedValues.{all_by, value_by, Names}
 use Rattle.perm_meaning.specs.Objects.{add, first_values, input_object, new_object, no_objects}
-use Rattle.perm_meaning.specs.Outcome.{opening, opening_heap}
+use Rattle.perm_meaning.specs.Outcome.{opening_heap}
 use Rattle.perm_meaning.specs.Evaluator.NumberedHeap.{AreApart, IsStored, StartsAs}
-use Rattle.perm_meaning.specs.Evaluator.Ties.{moment_by, opening_names, opening_stored, AllBelow, AreTied, FieldsBelow, IsTied}
+use Rattle.perm_meaning.specs.Evaluator.Ties.{opening_names, opening_stored, AllBelow, AreTied, FieldsBelow}
 use Rattle.perm_meaning.specs.Evaluator.UnbornNames.{AreUnborn, IsAhead}
 use Rattle.perm_meaning.specs.Values as values
 use Rattle.perm_meaning.proofs.Leads.{none-some, some-inj}
@@ -71,17 +70,3 @@ module _ (u : UnitCode) (input : List ℤ) (main : List Value) (limit : ℕ) (st
 pub opening-below : (r : Routine) (count : ℕ) (vs : List (Option Value)) → ((names : Names) → all_by names vs ≡ first_vars tagged r (Some (values.Reference (names 1) 0)) (Some (values.Reference (names 0) count) ∷ [])) → AllBelow 2 vs
 opening-below r count vs e = vars-below 2 (λ names. (names 0, names 1)) (λ a b same. λ i. (same 0 (omega arith) i, same 1 (omega arith) i))
     (λ (x : Name × Name). first_vars tagged r (Some (values.Reference x.1 0)) (Some (values.Reference x.0 count) ∷ [])) vs e
-
-module _ (u : UnitCode) (input : List ℤ) (main : List Value) (limit : ℕ) (start : StartsAs u (Class u.main) 0 main) (r : Routine) (o : Own)
-    (vars : (names : Names) → all_by names o.vars ≡ first_vars tagged r (Some (values.Reference (names 1) 0)) (Some (values.Reference (names 0) (length input)) ∷ [])) where
-  -- a branch that begins with them is tied
-  pub opening-is-tied : IsTied opening_names root_mark o (opening_stored u input main limit) (opening_heap u input)
-  opening-is-tied = record { objects = opening-tied u input main limit start; vars = opening-below r (length input) o.vars vars; unborn = opening-unborn u input }
-
-  -- its moment is that at which a run begins
-  pub opening-moment : (turns : ℕ) → o.«method» ≡ u.run → o.depth ≡ 1 → o.printed ≡ [] → moment_by opening_names root_mark (opening_heap u input) turns o ≡ opening u input turns r
-  opening-moment turns m d p = λ i. record {
-    turns = turns;
-    own = record { vars = vars opening_names i; routine = m i; depth = d i; printed = p i; mark = root_mark };
-    heap = opening_heap u input;
-  }

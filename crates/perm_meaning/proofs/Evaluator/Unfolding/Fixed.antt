@@ -126,7 +126,3 @@ module _ (u : UnitCode) (fits : ℕ → Bool) where
   -- what code does unfolds
   pub unfolds : Unfolds u fits
   unfolds c m = (unfolds-at m.turns c m (le_refl m.turns)).1
-
-  -- and leaves no more turns than it has
-  pub leaves-no-more : (c : Code) (m : Moment) → Leaves m.turns (whole u fits c m)
-  leaves-no-more c m = (enough-rounds m.turns m.turns c m (le_refl m.turns) (le_refl m.turns)).0
