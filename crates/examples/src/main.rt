@@ -21,6 +21,7 @@ const ROOM: u64 = 65_536;
 
 /// The turns and the words of the heap with which the interpreter and the plain evaluator are compared.
 const TURNS: u64 = 100_000;
+
 const WORDS: u64 = 65_536;
 
 /// The path of a text that stands in memory.

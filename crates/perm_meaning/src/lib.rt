@@ -5,7 +5,6 @@ mod eval;
 pub mod laws;
 
 pub use eval::plain::{Plain, eval_plain};
-
 use perm_tree::ast::Span;
 use perm_tree::errors::TrapKind;
 use perm_tree::list::{Numbers, Words};

@@ -185,5 +185,4 @@ module _ (u : Tables) (fits : ℕ → Bool) (names : Names) where
         stuck-by (frames.Right p left) (ForRight (par_at u p.own.«method» p.stmt) (moment_by names st.mark st.heap p.turns p.own) (final_by names left) (code_at u p.own.«method» p.rest)) x st.is
         (ap (λ y. then_do y (whole (code_of u) fits (code_at u p.own.«method» p.rest))) (q _))
         ends
-
-  -- ---------- the end of a run ----------
+    -- ---------- the end of a run ----------

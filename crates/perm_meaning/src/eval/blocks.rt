@@ -101,22 +101,13 @@ impl State {
     }
 
     /// `par .. and ..`
-    fn on_par(
-        &mut self,
-        alloc: Global,
-        unit: &Unit,
-        at: u32,
-        stmt: &Stmt,
-    ) -> Result<Fate, NoMemory>
+    fn on_par(&mut self, alloc: Global, unit: &Unit, at: u32, stmt: &Stmt) -> Result<Fate, NoMemory>
         requires { ComesNext unit.now self.old at stmt.now }
         ensures { (a b : Block) → stmt.now.kind ≡ StmtKind.Par a b → IfOk result (λ y. IsNext unit.now (unspent self.old) Fate.Goes self.new y) }
     {
         unit.resolved();
         if self.own.depth >= MOST_DEPTH {
-            return Ok(Fate::Fails(Failure::Trapped(
-                TrapKind::StackOverflow,
-                stmt.head,
-            )));
+            return Ok(Fate::Fails(Failure::Trapped(TrapKind::StackOverflow, stmt.head)));
         }
         self.split(alloc, at)?;
         Ok(Fate::Goes)

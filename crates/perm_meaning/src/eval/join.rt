@@ -66,8 +66,8 @@ fn after_left(
         }
         Final::Fine(right, more, own) => {
             let vars = merged(alloc, unit, at, parent, left.as_slice(), right.as_slice())?;
-            let printed = appended(printed, own)?;
-            Ok(Final::Fine(vars, turns + more, printed))
+            let all = appended(printed, own)?;
+            Ok(Final::Fine(vars, turns + more, all))
         }
     }
 }

@@ -76,12 +76,7 @@ impl State {
     }
 
     /// Goes into the method of the call at a span, if it begins.
-    fn go_into(
-        &mut self,
-        alloc: Global,
-        callee: Callee,
-        span: Span,
-    ) -> Result<Fate, NoMemory>
+    fn go_into(&mut self, alloc: Global, callee: Callee, span: Span) -> Result<Fate, NoMemory>
         requires { self.old.control.spot.at < 2 ^ 63 }
         ensures state { IfOk result (λ y. self.new ≡ callee_state callee self.old) }
         ensures fate { IfOk result (λ y. y ≡ callee_fate span callee) }

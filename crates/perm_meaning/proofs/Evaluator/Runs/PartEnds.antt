@@ -168,11 +168,10 @@ module _ (u : Tables) (s : State) (none : slice_get (stmts_in u s.own.«method»
     gives-next o ends lost same =
         subst (λ (k : Own). IsNext u s fates.Goes (after_turn k) (give_fate s.turns g x at)) (sym same)
         (end-next o.vars (Gives g x at) (subst (λ (k : Own). EndsWith k (Gives g x at)) same ends) (give_fate s.turns g x at) (s.turns - 1) (fewer s.turns) (give-ends s.turns g x at)
-        (λ n below.
-        (
-        vars-below n (λ names. all_by names s.own.vars) (λ a b k. all-same n a b k s.own.vars below) (λ ws. clear tagged ws lost.0) o.vars lost.1,
-        give-below n s.turns g x at
-        (λ v is. value-below (code_of u) (end_in u s.own.«method» s.control.spot.part) s.own o (Gives (given.Value v) x at) (subst (λ (g : Given). EndsWith o (Gives g x at)) is ends) v (λ names. refl) n below)
+        (λ n below. (
+          vars-below n (λ names. all_by names s.own.vars) (λ a b k. all-same n a b k s.own.vars below) (λ ws. clear tagged ws lost.0) o.vars lost.1,
+          give-below n s.turns g x at
+              (λ v is. value-below (code_of u) (end_in u s.own.«method» s.control.spot.part) s.own o (Gives (given.Value v) x at) (subst (λ (g : Given). EndsWith o (Gives g x at)) is ends) v (λ names. refl) n below),
         ))
         (give-is o.vars s.turns))
 
@@ -193,10 +192,9 @@ module _ (u : Tables) (s : State) (none : slice_get (stmts_in u s.own.«method»
     returns-next o ends same =
         subst (λ (k : Own). IsNext u s fates.Goes (after_turn k) (return_fate s.turns g at)) (sym same)
         (end-next s.own.vars (Returns g at) (subst (λ (k : Own). EndsWith k (Returns g at)) same ends) (return_fate s.turns g at) (s.turns - 1) (fewer s.turns) (return-ends s.turns g at)
-        (λ n below.
-        (
-        below,
-        return-below n s.turns g at
-        (λ v is. value-below (code_of u) (end_in u s.own.«method» s.control.spot.part) s.own o (Returns (given.Value v) at) (subst (λ (g : Given). EndsWith o (Returns g at)) is ends) v (λ names. refl) n below)
+        (λ n below. (
+          below,
+          return-below n s.turns g at
+              (λ v is. value-below (code_of u) (end_in u s.own.«method» s.control.spot.part) s.own o (Returns (given.Value v) at) (subst (λ (g : Given). EndsWith o (Returns g at)) is ends) v (λ names. refl) n below),
         ))
         (return-is s.turns))

@@ -15,6 +15,6 @@ returns c names out p e =
     let vs = all_by names c.args.parent.now.vars in
     let vars = c.in_ok-vars-in-Fine.ensures names
     ∙ (λ i. merged (writes_l pr) (writes_r pr) vs (all_by names (c.as_slice.ensures i)) (all_by names (c.as_slice-in-Fine.ensures i))) in
-    let printed = c.in_ok-printed-in-Fine.ensures ∙ ap (λ (l : List ℤ). l ++ c.in-Fine.own) e ∙ append_assoc out p c.in-Fine.own in
+    let printed = c.in_ok-all-in-Fine.ensures ∙ ap (λ (l : List ℤ). l ++ c.in-Fine.own) e ∙ append_assoc out p c.in-Fine.own in
     (λ i. Fine (vars i) (c.args.turns + c.in-Fine.more) (printed i))
     ∙ ap (λ (y : Final). end_of_par pr vs out (Fine (all_by names c.args.left) c.args.turns p) (final_by names y)) (sym c.in-Fine.is)

@@ -16,7 +16,8 @@ returns c =
     let objects = ap values_of (c.in_ok-insert.ensures.entries ∙ put) ∙ add-values c.self.inside.objects.entries c.len-number.result c.args.values in
     let count = c.len.ensures.value in
     let max_is = c.max-words.ensures in
-    let words : c.max-words.result ≡ size (length c.args.values) = omega (arith, count, max_is) in
-    (c.len-number.ensures.len ∙ sym (length-values c.self.inside.objects.entries) ∙ ap (λ (s : Stored). length s.objects) c.self.view_is,
-     (λ i. record { objects = objects i; given = c.self.inside.given + words i; limit = c.self.inside.limit })
-     ∙ ap (λ (s : Stored). record s { objects = s.objects ++ c.args.values ∷ []; given = s.given + size (length c.args.values) }) c.self.view_is)
+    let words : c.max-words.result ≡ size (length c.args.values) = omega (arith, count, max_is) in (
+      c.len-number.ensures.len ∙ sym (length-values c.self.inside.objects.entries) ∙ ap (λ (s : Stored). length s.objects) c.self.view_is,
+      (λ i. record { objects = objects i; given = c.self.inside.given + words i; limit = c.self.inside.limit })
+          ∙ ap (λ (s : Stored). record s { objects = s.objects ++ c.args.values ∷ []; given = s.given + size (length c.args.values) }) c.self.view_is,
+    )
